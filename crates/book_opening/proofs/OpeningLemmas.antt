@@ -1,15 +1,14 @@
 -- What comes of reading the entries of a book one by one.
-use Rattle.std.proofs.Common.{◌≡◌, ℕ, ◌+◌, ◌≤◌, true, Option, Some, None, Result, Ok, Err, List, [], ◌∷◌, ◌++◌, MatchResult, inl, inr, refl, sym, ◌∙◌, ap, subst, arith, append-nil, append_assoc}
+use Rattle.std.proofs.Common.{◌≡◌, ℕ, ◌+◌, ◌≤◌, Option, Some, None, Result, Ok, Err, List, [], ◌∷◌, ◌++◌, MatchResult, inl, inr, refl, sym, ◌∙◌, subst, arith, append-nil, append_assoc}
 use Rattle.mc_outside.specs.DiskView.{DiskView, OnlyRead}
 use Rattle.mc_outside.proofs.Runs.{read_then}
-use Rattle.mc_records.specs.Entry.{Entry, Fits, payload}
-use Rattle.mc_records.specs.Chains.{chain, is_switch}
+use Rattle.mc_records.specs.Entry.{Entry}
 use Rattle.mc_records.specs.Following.{AllFollowBy}
 use Rattle.mc_records.specs.Sizes.{size, entry_size}
 use Rattle.mc_records.specs.declared.limits.TheConstants.Limits.{MOST_JOURNAL}
 use Rattle.scrip_journal.specs.Layout.{Encodes, IsSpoiled, IsUnchained}
 use Rattle.scrip_journal.specs.States.{Reading, IsReading}
-use Rattle.scrip_journal.specs.Replays.{ReadsOn}
+use Rattle.scrip_journal.specs.Replays.{Finds, IsMalformed, ReadsOn}
 use Rattle.scrip_journal.specs.declared.ending.ReplayFault.{ReplayFault}
 use Rattle.scrip_journal.specs.declared.ending.ReplayFault.TheVariants.{BadRecord, BadChain, Disk}
 use Rattle.scrip_journal.specs.Causes.{IsOfKind, IsOfOther, BeginsWithEntries, IsUnlawfulAt}
@@ -52,13 +51,6 @@ module _ (kinds : ℕ → Type 0) where
 begins_so : {D : Type 0} (view : D → DiskView) (r : Reading D) (h : List Entry) (x : List ℕ) (is : IsReading view r h) → (view r.disk).contents ≡ Some x → BeginsWithEntries h x
 begins_so view r h x is told = record { fits = is.fits; most = is.most; begins = (is.rest, sym (bytes_told view r h x is told) ∙ is.shape) }
 
--- the entry behind the next gate
-pub read_entry : {D : Type 0} (view : D → DiskView) (h : List Entry) (bytes : List ℕ) (gate place : ℕ) (new : Reading D) (f : Entry) → ReadsOn view h bytes gate (Ok (Some place)) new
-    → ((e : Entry) → Fits e → new.last ≡ payload e → some f ≡ some e) → (place ≡ gate) × IsReading view new (h ++ f ∷ []) × (is_switch f ≡ true → new.before ≡ chain h)
-read_entry view h bytes gate place new f reads value =
-    let one : f ≡ reads.1 = some_same f reads.1 (value reads.1 reads.2 reads.3) in
-    (reads.0, subst (λ (e : Entry). IsReading view new (h ++ e ∷ [])) (sym one) reads.4, λ switch. reads.5 (ap is_switch (sym one) ∙ switch))
-
 -- there is room for it
 pub entry_fits : {D : Type 0} (view : D → DiskView) (h : List Entry) (new : Reading D) (f : Entry) → IsReading view new (h ++ f ∷ []) → size h + entry_size h f ≤ MOST_JOURNAL
 entry_fits view h new f is = omega (arith, size_more h f, is.most)
@@ -76,6 +68,13 @@ faulted view opener x bytes gate new h follow of same (BadRecord place) reads = 
 faulted view opener x bytes gate new h follow of same (BadChain place stood computed) reads = record { before = h; follow = follow; of_kind = of; reads = subst (λ (l : List ℕ). IsUnchained h l place stood computed) same reads.0 }
 faulted view opener x bytes gate new h follow of same Disk reads = tt
 
+-- the payload found behind them is malformed
+malformed : {D L : Type 0} (view : D → DiskView) (opener : OpenerView L) (x bytes : List ℕ) (new : Reading D) (h : List Entry) → AllFollowBy opener.may [] h → IsOfKind opener.kinds h → bytes ≡ x
+    → (fault : ReplayFault) → IsMalformed new fault → Finds view h bytes new → HaltsBy opener x (halts.Reading fault)
+malformed view opener x bytes new h follow of same fault (place, read, is) finds =
+    subst (λ (f : ReplayFault). HaltsBy opener x (halts.Reading f)) (sym is)
+    (record { before = h; follow = follow; of_kind = of; reads = subst (λ (l : List ℕ). IsSpoiled h l (new.at + place)) same (finds.malformed place read) })
+
 module _ {D L : Type 0} (view : D → DiskView) (opener : OpenerView L) (x : List ℕ) (old new : Reading D) (learner : L)
     (told : (view old.disk).contents ≡ Some x) (h : List Entry) (reading : IsReading view old h) (l : HasLearned opener learner h) where
   pub none_left : ReadsOn view h reading.bytes old.gate (Ok None) new → LearnedAll view opener x new learner
@@ -83,6 +82,9 @@ module _ {D L : Type 0} (view : D → DiskView) (opener : OpenerView L) (x : Lis
 
   pub faults_here : (fault : ReplayFault) → ReadsOn view h reading.bytes old.gate (Err fault) new → HaltsBy opener x (halts.Reading fault)
   faults_here fault reads = faulted view opener x reading.bytes old.gate new h l.follow (of_kind opener.kinds h l.of_site) (bytes_told view old h x reading told) fault reads
+
+  pub malformed_here : (fault : ReplayFault) → IsMalformed new fault → Finds view h reading.bytes new → HaltsBy opener x (halts.Reading fault)
+  malformed_here fault bad finds = malformed view opener x reading.bytes new h l.follow (of_kind opener.kinds h l.of_site) (bytes_told view old h x reading told) fault bad finds
 
   pub learned_more : (m : L) (f : Entry) → IsReading view new (h ++ f ∷ []) → opener.may h f × opener.holds m (h ++ f ∷ []) → LearnedSome view opener new m
   learned_more m f is learns = (
@@ -120,6 +122,9 @@ module _ {D L : Type 0} (view : D → DiskView) (opener : OpenerView L) (x : Lis
 
   pub faults_first : (r : IsReading view old []) (fault : ReplayFault) → ReadsOn view [] r.bytes old.gate (Err fault) new → HaltsBy opener x (halts.Reading fault)
   faults_first r fault reads = faulted view opener x r.bytes old.gate new [] tt tt (bytes_told view old [] x r told) fault reads
+
+  pub malformed_first : (r : IsReading view old []) (fault : ReplayFault) → IsMalformed new fault → Finds view [] r.bytes new → HaltsBy opener x (halts.Reading fault)
+  malformed_first r fault bad finds = malformed view opener x r.bytes new [] tt tt (bytes_told view old [] x r told) fault bad finds
 
   pub first_learned : OnlyRead (view old.disk) (view new.disk) → (e : Entry) → IsReading view new (e ∷ []) → (result : Result L Halt) → BeginsBy opener e result → MatchResult result (LearnedSome view opener new) (HaltsBy opener x)
   first_learned read e is (Ok learner) begun = (e ∷ [], is, begun)

@@ -145,8 +145,8 @@ fn learn_first<D: Disk, O: Opener>(
         Err(fault) => return Err(Halt::Reading(fault)),
     }
     match replay.record() {
-        Some(first) => begin_with(alloc, &first, opener),
-        None => unreachable!(),
+        Ok(first) => begin_with(alloc, &first, opener),
+        Err(fault) => Err(Halt::Reading(fault)),
     }
 }
 
@@ -218,8 +218,9 @@ fn learn_next<D: Disk, O: Opener>(
         Ok(None) => return Ok(false),
         Err(fault) => return Err(Halt::Reading(fault)),
     };
-    let Some(record) = replay.record() else {
-        unreachable!()
+    let record = match replay.record() {
+        Ok(record) => record,
+        Err(fault) => return Err(Halt::Reading(fault)),
     };
     if !O::is_told(&record, &replay.chain_before()) {
         return Err(Halt::Unlawful(gate));

@@ -110,7 +110,7 @@ fn read_all(alloc: Global, replay: &mut Replay<Stage>) -> Result<History, Fault>
             Ok(None) => break,
             Err(_) => return Err(Fault::Book),
         }
-        let Some(record) = replay.record() else {
+        let Ok(record) = replay.record() else {
             return Err(Fault::Book);
         };
         history.push(&record)?;

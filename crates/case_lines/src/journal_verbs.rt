@@ -137,14 +137,16 @@ fn read_all(alloc: Global, mut replay: Replay<Stage>, out: &mut Lines) -> Stage 
 
 /// Reads and prints the next entry, or how the journal ends. Whether there was an entry.
 fn read_one(alloc: Global, replay: &mut Replay<Stage>, out: &mut Lines) -> bool {
-    match replay.next_record() {
-        Ok(Some(gate)) => {
-            out.start("entry");
-            out.number(gate);
-            show_last(alloc, replay, out);
-            return true;
+    let shown = match replay.next_record() {
+        Ok(Some(gate)) => show_found(alloc, gate, replay, out),
+        Ok(None) => {
+            out.line("closed");
+            return false;
         }
-        Ok(None) => out.line("closed"),
+        Err(fault) => Err(fault),
+    };
+    match shown {
+        Ok(()) => return true,
         Err(ReplayFault::BadRecord { place }) => out.counted("bad entry at", place),
         Err(
             ReplayFault::BadChain {
@@ -158,6 +160,24 @@ fn read_one(alloc: Global, replay: &mut Replay<Stage>, out: &mut Lines) -> bool 
     false
 }
 
+/// Prints the gate of the entry that was found, and the length and the digest of its payload, as it is written again.
+fn show_found(
+    alloc: Global,
+    gate: u64,
+    replay: &Replay<Stage>,
+    out: &mut Lines,
+) -> Result<(), ReplayFault> {
+    let record = replay.record()?;
+    out.start("entry");
+    out.number(gate);
+    let mut payload = Vec::new(alloc);
+    if write_record(&record, &mut payload).is_ok() {
+        out.digest(&payload);
+    }
+    out.end();
+    Ok(())
+}
+
 /// Prints the place of a chain, the one that stands there and the one that was computed.
 fn show_bad_chain(place: u64, stood: &[u8; 32], computed: &[u8; 32], out: &mut Lines) {
     out.start("bad chain at");
@@ -165,17 +185,4 @@ fn show_bad_chain(place: u64, stood: &[u8; 32], computed: &[u8; 32], out: &mut L
     out.digits(stood);
     out.digits(computed);
     out.end()
-}
-
-/// Prints the length and the digest of the payload of the last entry, as it is written again.
-fn show_last(alloc: Global, replay: &Replay<Stage>, out: &mut Lines) {
-    let mut payload = Vec::new(alloc);
-    let is_written = match replay.record() {
-        Some(record) => write_record(&record, &mut payload).is_ok(),
-        None => false,
-    };
-    if is_written {
-        out.digest(&payload);
-    }
-    out.end();
 }

@@ -62,15 +62,15 @@ pub fn show_entry(verb: &str, record: &Record<'_>, out: &mut Lines) {
 }
 
 /// Whether both writers write these bytes of an entry, and none where a byte of room lacks.
-fn is_written_so(alloc: Global, record: &Record<'_>, bytes: &[u8]) -> Result<bool, Fault>
-    requires { Fits (entry record.now) }
+fn is_written_so(alloc: Global, r: &Record<'_>, bytes: &[u8]) -> Result<bool, Fault>
+    requires { Fits (entry r.now) }
 {
     let mut room = vec![in alloc; b'.'; bytes.len()]?;
-    let exact = put_record(record, &mut room) == Some(bytes.len()) && room.as_slice() == bytes;
+    let exact = put_record(r, &mut room) == Some(bytes.len()) && room.as_slice() == bytes;
     let _last = room.pop();
-    let short = put_record(record, &mut room).is_none();
+    let short = put_record(r, &mut room).is_none();
     let mut written = Vec::new(alloc);
-    write_record(record, &mut written)?;
+    write_record(r, &mut written)?;
     Ok(exact && short && written.as_slice() == bytes)
 }
 

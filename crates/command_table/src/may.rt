@@ -1,6 +1,6 @@
 //! Whether the parameters of a command have words that spell values, or none yet.
 
-ghost use Rattle.std.specs.Prelude.{◌≡◌, ◌≤◌, true, length, decimal, IfSome, IsNone, IsTrue, ◌↔◌};
+ghost use Rattle.std.specs.Prelude.{◌≡◌, ◌≤◌, true, length, decimal, Contains, IfSome, IsNone, IsTrue, ◌↔◌};
 ghost use Rattle.std.specs.List.{AllByRecursion};
 ghost use Rattle.hex.specs.Hex.{encode_lower};
 ghost use Rattle.scrip_form.specs.Texts.{IsName, IsTarget};
@@ -40,6 +40,7 @@ fn each_may_be(found: &Found<'_>, parameters: &[Parameter]) -> bool
 /// The first of these parameters that has words which spell no value of it.
 pub(crate) fn first_unfit(found: &Found<'_>, parameters: &[Parameter]) -> Option<Parameter>
     ensures none { IsNone result ↔ EachMayBe found.now parameters.now }
+    ensures listed { IfSome result (λ p. Contains parameters.now p) }
     ensures some { IfSome result (λ p. MayBe found.now (name_of p) (shape_of p) → ⊥) }
 {
     for parameter in parameters {

@@ -2,6 +2,8 @@
 
 ghost use Rattle.std.specs.Prelude.{◌≡◌};
 ghost use Rattle.mc_records.specs.Chains as chains;
+ghost use Rattle.mc_records.specs.Chains.{is_switch};
+ghost use Rattle.mc_records.specs.Entry.{Entry, payload};
 
 use sha2::{Digest, Sha256};
 
@@ -18,4 +20,14 @@ pub fn chain_after(chain: &[u8; 32], payload: &[u8]) -> [u8; 32]
     hasher.update(chain);
     hasher.update(payload);
     hasher.finalize()
+}
+
+/// Whether the payload of an entry is that of a Switch, by its first byte alone. Of bytes that are no payload it says nothing.
+pub fn begins_switch(bytes: &[u8]) -> bool
+    ensures { (e : Entry) → bytes.now ≡ payload e → result ≡ is_switch e }
+{
+    match bytes {
+        [kind, ..] => *kind == 17,
+        [] => false,
+    }
 }

@@ -30,7 +30,7 @@ mod sizes;
 mod writing;
 
 pub use appending::write_record;
-pub use chain::{FIRST_CHAIN, chain_after};
+pub use chain::{FIRST_CHAIN, begins_switch, chain_after};
 pub use date_law::date_of_its_second;
 pub use errand::Errand;
 pub use errand_law::errands_are_texts;

@@ -1,17 +1,20 @@
 -- What one call of `next_record` does, from its steps.
-use Rattle.std.proofs.Common.{◌≡◌, ℕ, true, List, Option, Some, None, Ok, Err, refl, sym, ◌∙◌, subst, arith}
+use Rattle.std.proofs.Common.{◌≡◌, ℕ, ◌+◌, ◌++◌, true, List, Option, Some, None, Ok, Err, refl, sym, ◌∙◌, ap, subst, arith}
 use Rattle.std.specs.Prelude.{IsSome}
 use Rattle.mc_outside.specs.DiskView.{DiskView}
-use Rattle.mc_records.specs.Entry.{Entry}
-use Rattle.scrip_journal.specs.Layout.{next_of}
-use Rattle.scrip_journal.specs.States.{Reading, IsReading, EndedBy}
+use Rattle.mc_records.specs.Entry.{Entry, payload}
+use Rattle.mc_records.specs.Forms.{entry_of}
+use Rattle.mc_records.specs.Sizes.{tail_by}
+use Rattle.scrip_journal.specs.Layout.{body, next_of}
+use Rattle.scrip_journal.specs.States.{Reading, IsReading, EndedBy, known_chain}
 use Rattle.scrip_journal.specs.Answers.{Given, answer_of}
-use Rattle.scrip_journal.specs.Replays.{LookedOn, FaultsBy, CausedBy, IsFrame, EndsReading, TookEntry, ReadsOn, Advanced, ending_of}
+use Rattle.scrip_journal.specs.Replays.{LookedOn, FaultsBy, CausedBy, IsPayload, IsFrame, EndsReading, TookEntry, ReadsOn, Advanced, ending_of}
 use Rattle.scrip_journal.specs.declared.ending.Ending.{Ending}
 use Rattle.scrip_journal.specs.declared.replay.Found.{Found}
 use Rattle.scrip_journal.specs.declared.ending.Ending.TheVariants.{Closed, Spoiled, Unchained, Failed}
 use Rattle.scrip_journal.proofs.Known.{chain_known}
-use Rattle.scrip_journal.proofs.Looked.{same_rest}
+use Rattle.scrip_journal.proofs.Looked.{same_rest, ends_reading}
+use Rattle.scrip_journal.proofs.Looking.{malformed_here}
 use Rattle.scrip_journal.proofs.Reading.{ended_reading, next_reading, stands_here, spoiled_here, unchained_here}
 
 pub none_of : {A : Type 0} (o : Option A) → ((x : A) → o ≡ Some x → ⊥) → o ≡ None
@@ -36,6 +39,10 @@ relast view a h last r = record {
   synced = r.synced;
 }
 
+-- the payload of a frame
+abbrev payload_of : {D : Type 0} (b : Reading D) (f : Found) → IsFrame f b.switched b.chain b.gate b.held → IsPayload f.bytes b.switched b.gate b.held
+payload_of b f g = record { bytes = g.bytes; length_is = g.length_is; short = g.short; rest = tail_by b.switched (known_chain f.chain) ++ g.rest; shape = g.shape; within = g.within }
+
 -- what has ended gives no place
 pub no_place : (e : Ending) (place : ℕ) → answer_of e ≡ Ok (Some place) → ⊥
 no_place Closed place is = cc
@@ -57,11 +64,26 @@ module _ {D : Type 0} (view : D → DiskView) (moved : D → D → Type 0) (old 
     rises = λ place is. (omega (arith, looked.gate), omega (arith, frame.within));
     stays = λ is. absurd (cc is);
     still = λ is. absurd (cc is);
-    has_payload = λ place is. (frame.next, frame.fits, took.1 frame);
     cause = λ _. faults;
-    reads = λ h r.
-        let still = looked.reading h (relast view old h last r) in
-        (took.0 ∙ looked.gate, frame.next, frame.fits, took.1 frame, next_reading view b h still _ f frame (looked.ended ∙ on) known refl, λ switch. chain_known b.chain h still.chain_is (known (frame.switch_is ∙ switch)));
+    reads = λ h r. (
+      took.0 ∙ looked.gate,
+      record {
+        behind = _;
+        opened =
+            let before = relast view old h last r in
+            let still = looked.reading h before in
+            r.shape ∙ ap (λ (l : List ℕ). body h ++ l) (sym (same_rest view (record old { last = last }) b looked h before still) ∙ still.held_is.1 ∙ ap (λ (l : List ℕ). l ++ still.held_is.0) frame.shape);
+        entry = λ e fits is.
+            let still = looked.reading h (relast view old h last r) in
+            let of_entry : frame.bytes ≡ payload e = sym (took.1 frame) ∙ is in
+            (next_reading view b h still _ f frame e fits of_entry (looked.ended ∙ on) known refl, λ switch. chain_known b.chain h still.chain_is (known (frame.switch_is e of_entry ∙ switch)));
+        malformed = λ fault read.
+            let before = relast view old h last r in
+            let still = looked.reading h before in
+            let ends = ends_reading view b (Spoiled (b.gate + 5 + fault)) (malformed_here view b f.bytes (payload_of b f frame) fault (ap entry_of (sym (took.1 frame)) ∙ read)) h still in
+            spoiled_here view old h r (b.gate + 5 + fault) (ap (next_of h) (sym (same_rest view (record old { last = last }) b looked h before still)) ∙ ends);
+      },
+    );
   })
 
   -- what a reading that ended answers
@@ -104,7 +126,6 @@ module _ {D : Type 0} (view : D → DiskView) (moved : D → D → Type 0) (old 
         rises = λ place is. absurd (no_place e place is);
         stays = λ is. looked.gate;
         still = λ is. looked.switched;
-        has_payload = λ place is. absurd (no_place e place is);
         cause = λ _. caused e faults;
         reads = reads_no_more e ends;
       }))

@@ -10,7 +10,7 @@ use Rattle.scrip_journal.specs.declared.fault.HouseFault.{HouseFault}
 use Rattle.scrip_journal.specs.declared.fault.HouseFault.TheVariants.{NotJournal, BadRecord, BadChain, Unlawful, WrongKind, NotEmpty, Disk, NoMemory}
 use Rattle.scrip_journal.specs.Opens.{NoLonger}
 use Rattle.scrip_journal.specs.Exits.{EitherNoOutput}
-use Rattle.scrip_journal.proofs.Reading.{bytes_told, some_same}
+use Rattle.scrip_journal.proofs.Reading.{some_same}
 use Rattle.scrip_journal.specs.Founds.{IsFree, IsNoEmptyJournal, EmptiedImage, FoundsBookBy, ReadsOnly, ShortNoOutput, FoundImage, FoundNoOutput, ClearsSmall, EntersFirst, IsOfWriting}
 
 pub ran_at : {D : Type 0} (view : D → DiskView) (a : DiskView) (d e : D) (P : List ℕ → List ℕ → Type 0) → e ≡ d → Ran a (view d) P → Ran a (view e) P
@@ -75,12 +75,10 @@ head_same x y xs ys e = cc
 pub empty_begins : (x : List ℕ) → Encodes [] x → BeginsWith header x
 empty_begins x st = (st.gate ∷ st.rest, st.shape ∙ ap (λ (l : List ℕ). l ++ st.gate ∷ st.rest) (append-nil header))
 
--- those with an entry do not
-pub no_more : {D : Type 0} (view : D → DiskView) (r : Reading D) (e : Entry) (x : List ℕ) → IsReading view r (e ∷ []) → (view r.disk).contents ≡ Some x → Encodes [] x → ⊥
+-- those with an open gate behind it do not
+pub no_more : (bytes x rest : List ℕ) → bytes ≡ body [] ++ 1 ∷ rest → bytes ≡ x → Encodes [] x → ⊥
 unfolding header
-no_more view r e x is told st =
-    let same : body (e ∷ []) ++ is.rest ≡ body [] ++ st.gate ∷ st.rest = sym is.shape ∙ (bytes_told view r (e ∷ []) x is told ∙ st.shape) in
-    st.closed (sym (head_same 1 st.gate _ _ (ap (λ (l : List ℕ). drop 8 l) same)))
+no_more bytes x rest is same st = st.closed (sym (head_same 1 st.gate _ _ (ap (λ (l : List ℕ). drop 8 l) (sym is ∙ same ∙ st.shape))))
 
 -- a small disk is free, and one that is not is taken, where it does not stand for no entries
 pub cleared : {D : Type 0} (view : D → DiskView) (x : List ℕ) (result : Result (AtRest D) (HouseFault D)) → (Encodes [] x → ⊥) → ClearsSmall view x result → FoundsBookBy view [] x result

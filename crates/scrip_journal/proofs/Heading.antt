@@ -10,7 +10,7 @@ use Rattle.scrip_journal.specs.declared.ending.Ending.{Ending}
 use Rattle.scrip_journal.specs.Replays.{HeldOf, AllHeld, ReadAhead, FoundHeader}
 use Rattle.scrip_journal.proofs.Bodies.{header_long}
 
-module _ {D : Type 0} (view : D → DiskView) (old new : Reading D) (front : old ≡ record { disk = old.disk; gate = 0; entries = 0; limit = old.limit; switched = false; chain = None; before = first_chain; held = []; last = []; ended = None }) where
+module _ {D : Type 0} (view : D → DiskView) (old new : Reading D) (front : old ≡ record { disk = old.disk; gate = 0; entries = 0; limit = old.limit; switched = false; chain = None; before = first_chain; held = []; last = []; at = 0; ended = None }) where
   gate : old.gate ≡ 0
   gate = ap (λ (v : Reading D). v.gate) front
 

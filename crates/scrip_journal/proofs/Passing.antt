@@ -1,14 +1,18 @@
 -- How entries that were read are passed once more.
-use Rattle.std.proofs.Common.{◌≡◌, ℕ, ◌+◌, ◌<◌, ◌≤◌, false, List, [], ◌∷◌, ◌++◌, Option, Some, None, refl, sym, ◌∙◌, ap, subst, arith, append-nil, append_assoc}
+use Rattle.std.proofs.Common.{◌≡◌, ℕ, ◌+◌, ◌<◌, ◌≤◌, false, List, [], ◌∷◌, ◌++◌, length, drop, Option, Some, None, refl, sym, ◌∙◌, ap, subst, arith, append-nil, append_assoc}
 use Rattle.std.specs.Prelude.{IsSome}
 use Rattle.std.specs.List.{AllByRecursion}
+use Rattle.std.specs.Int.{to_be_bytes, from_be_bytes, w32}
 use Rattle.std.proofs.lemmas.List.{append_cancel_left}
+use Rattle.std.proofs.lemmas.Nat.{from_be_bytes-to_be_bytes_4}
 use Rattle.mc_outside.specs.Bytes.{BeginsWith}
 use Rattle.mc_outside.specs.DiskView.{DiskView, OnlyRead}
 use Rattle.mc_records.specs.declared.limits.TheConstants.Limits.{MOST_JOURNAL}
-use Rattle.mc_records.specs.Entry.{Entry, Fits}
+use Rattle.mc_records.specs.Entry.{Entry, Fits, payload}
 use Rattle.mc_records.specs.Chains.{first_chain, chain}
-use Rattle.mc_records.specs.Sizes.{size}
+use Rattle.mc_records.specs.Sizes.{size, tail, tail_by}
+use Rattle.mc_records.specs.declared.sizes.TheConstants.{PAYLOAD_BOUND}
+use Rattle.mc_records.proofs.PayloadSizes.{payload_is_short}
 use Rattle.mc_records.proofs.ChainLaws.{chain-none}
 use Rattle.scrip_journal.specs.Layout.{header, framed, gated, body, Encodes, Next, entered, next_of}
 use Rattle.scrip_journal.specs.States.{AtRest, Reading, IsJournal, IsReading, IsChainOf, EndedBy, known_chain}
@@ -20,7 +24,7 @@ use Rattle.scrip_journal.proofs.Beginnings.{size_apart, size_grows}
 use Rattle.scrip_journal.proofs.Known.{chain_known}
 use Rattle.scrip_journal.proofs.Looked.{ends_reading}
 use Rattle.scrip_journal.proofs.Reading.{some_same, still_reading, next_reading}
-use Rattle.scrip_journal.proofs.Unique.{entered_there}
+use Rattle.scrip_journal.proofs.Unique.{append_split, entered_there}
 
 -- ---- the entry that comes next
 
@@ -37,15 +41,35 @@ fits_at : (before es : List Entry) (x : Entry) → AllByRecursion Fits (before +
 fits_at [] es x all = all.0
 fits_at (y ∷ before) es x all = fits_at before es x all.1
 
--- behind some entries this one comes, where the bytes begin with them and with it
-comes_next : (before more : List Entry) (x : Entry) (bytes rest s : List ℕ) → AllByRecursion Fits (before ++ x ∷ more) → size (before ++ x ∷ more) ≤ MOST_JOURNAL → bytes ≡ body before ++ rest → bytes ≡ body (before ++ x ∷ more) ++ s
-    → next_of before rest ≡ entered x
-comes_next before more x bytes rest s fits most shape begins =
+-- behind some entries the bytes go on with this one, where they begin with them and with it
+goes_on : (before more : List Entry) (x : Entry) (bytes rest s : List ℕ) → bytes ≡ body before ++ rest → bytes ≡ body (before ++ x ∷ more) ++ s → rest ≡ 1 ∷ (framed before x ++ (gated (before ++ x ∷ []) more ++ s))
+goes_on before more x bytes rest s shape begins =
     let left : List ℕ = gated (before ++ x ∷ []) more ++ s in
     let whole : body before ++ rest ≡ body before ++ (1 ∷ (framed before x ++ left)) =
     sym shape ∙ begins ∙ ap (λ (l : List ℕ). l ++ s) (body_apart before (x ∷ more)) ∙ append_assoc (body before) (gated before (x ∷ more)) s
     ∙ ap (λ (l : List ℕ). body before ++ (1 ∷ l)) (append_assoc (framed before x) (gated (before ++ x ∷ []) more) s) in
-    ap (next_of before) (append_cancel_left (body before) rest (1 ∷ (framed before x ++ left)) whole) ∙ entered_there before x left (fits_at before more x fits) (size_grows before more x most)
+    append_cancel_left (body before) rest (1 ∷ (framed before x ++ left)) whole
+
+-- so it comes next
+comes_next : (before more : List Entry) (x : Entry) (bytes rest s : List ℕ) → AllByRecursion Fits (before ++ x ∷ more) → size (before ++ x ∷ more) ≤ MOST_JOURNAL → bytes ≡ body before ++ rest → bytes ≡ body (before ++ x ∷ more) ++ s
+    → next_of before rest ≡ entered x
+comes_next before more x bytes rest s fits most shape begins =
+    ap (next_of before) (goes_on before more x bytes rest s shape begins) ∙ entered_there before x (gated (before ++ x ∷ []) more ++ s) (fits_at before more x fits) (size_grows before more x most)
+
+-- a length that is spelled, and so many bytes behind it, are those of an entry that stands there
+one_payload : (before : List Entry) (x : Entry) (n : ℕ) (p r s : List ℕ) → Fits x → n < PAYLOAD_BOUND → length p ≡ n → 1 ∷ (to_be_bytes w32 n ++ (p ++ r)) ≡ 1 ∷ (framed before x ++ s) → p ≡ payload x
+unfolding framed
+one_payload before x n p r s fits short len same =
+    let m = length (payload x) in
+    let front = to_be_bytes w32 n in
+    let spelled = to_be_bytes w32 m in
+    let back : List ℕ = tail before x ++ s in
+    let right : framed before x ++ s ≡ spelled ++ (payload x ++ back) = append_assoc spelled (payload x ++ tail before x) s ∙ ap (λ (l : List ℕ). spelled ++ l) (append_assoc (payload x) (tail before x) s) in
+    let parts = append_split front spelled (p ++ r) (payload x ++ back) refl (ap (λ (l : List ℕ). drop 1 l) same ∙ right) in
+    let of_n = from_be_bytes-to_be_bytes_4 n (omega (arith, short)) in
+    let of_m = from_be_bytes-to_be_bytes_4 m (omega (arith, payload_is_short x fits)) in
+    let lengths : n ≡ m = sym of_n ∙ ap (λ (l : List ℕ). from_be_bytes w32 l) parts.0 ∙ of_m in
+    (append_split p (payload x) r back (len ∙ lengths) parts.1).0
 
 -- a reading does not end there
 abbrev pub IsFailed : Ending → Type 0
@@ -94,15 +118,22 @@ module _ {D : Type 0} (view : D → DiskView) (a : Reading D) (h : List Entry) (
       let behind = some_behind less in
       let x = behind.0 in
       let more = behind.1 in
-      let is : IsReading view new (p.passed ++ g.next ∷ []) = next_reading view b p.passed (still_reading view a p.passed p.reading b ahead) new f g (ahead.same.ended ∙ on) (λ _. known) took.2 in
+      let parts : h ≡ p.passed ++ x ∷ more = p.parts ∙ ap (λ (l : List Entry). p.passed ++ l) behind.2 in
+      let fits : Fits x = fits_at p.passed more x (subst (AllByRecursion Fits) parts p.fits) in
+      let still = still_reading view a p.passed p.reading b ahead in
+      let there = goes_on p.passed more x p.reading.bytes p.reading.rest p.begins.0 p.reading.shape (p.begins.1 ∙ ap (λ (l : List Entry). body l ++ p.begins.0) parts) in
+      let end : List ℕ = tail_by b.switched (known_chain f.chain) ++ g.rest in
+      let front = to_be_bytes w32 f.bytes in
+      let held : 1 ∷ (front ++ (g.bytes ++ (end ++ still.held_is.0))) ≡ p.reading.rest =
+      sym (still.held_is.1 ∙ ap (λ (l : List ℕ). l ++ still.held_is.0) g.shape
+      ∙ ap (λ (l : List ℕ). 1 ∷ l) (append_assoc front (g.bytes ++ end) still.held_is.0 ∙ ap (λ (l : List ℕ). front ++ l) (append_assoc g.bytes end still.held_is.0))) in
+      let one : g.bytes ≡ payload x = one_payload p.passed x f.bytes g.bytes (end ++ still.held_is.0) _ fits g.short g.length_is (held ∙ there) in
+      let is : IsReading view new (p.passed ++ x ∷ []) = next_reading view b p.passed still new f g x fits one (ahead.same.ended ∙ on) (λ _. known) took.2 in
       let bytes : is.bytes ≡ p.reading.bytes = some_same is.bytes p.reading.bytes (sym is.told ∙ (ap (λ (v : Reading D). (view v.disk).contents) took.2 ∙ ahead.only_read.contents ∙ p.reading.told)) in
-      let that : next_of p.passed p.reading.rest ≡ entered g.next = comes_next p.passed [] g.next p.reading.bytes p.reading.rest is.rest is.fits is.most p.reading.shape (sym bytes ∙ is.shape) in
-      let both : entered x ≡ entered g.next = sym (next_there x more behind.2) ∙ that in
-      let one : x ≡ g.next = cc both in
       record {
-        passed = p.passed ++ g.next ∷ [];
+        passed = p.passed ++ x ∷ [];
         behind = more;
-        parts = p.parts ∙ ap (λ (l : List Entry). p.passed ++ l) (behind.2 ∙ ap (λ (e : Entry). e ∷ more) one) ∙ sym (append_assoc p.passed (g.next ∷ []) more);
+        parts = parts ∙ sym (append_assoc p.passed (x ∷ []) more);
         fits = p.fits;
         most = p.most;
         reading = is;
@@ -113,7 +144,7 @@ module _ {D : Type 0} (view : D → DiskView) (a : Reading D) (h : List Entry) (
 
 module _ {D : Type 0} (view : D → DiskView) (old : Reading D) (h : List Entry) (r : IsReading view old h) where
   -- none are passed yet
-  pub passes_none : (a : Reading D) → old.ended ≡ None → a ≡ record old { gate = 8; entries = 0; switched = false; chain = Some first_chain; held = []; last = [] } → Passes view a h
+  pub passes_none : (a : Reading D) → old.ended ≡ None → a ≡ record old { gate = 8; entries = 0; switched = false; chain = Some first_chain; held = []; last = []; at = 0 } → Passes view a h
   passes_none a on is = subst (λ (v : Reading D). Passes view v h) (sym is) (record {
     passed = [];
     behind = h;
@@ -159,8 +190,8 @@ module _ {D : Type 0} (view : D → DiskView) (old : Reading D) (h : List Entry)
 -- The entries were passed once more, and then it stands at the gate again: whatever was read, only what is known of the
 -- chain may be more.
 pub found_again : {D : Type 0} (view : D → DiskView) (old a b new : Reading D) (gate entries : ℕ) (c : Option (List ℕ)) → old.ended ≡ None → old.switched ≡ false → gate ≡ old.gate → entries ≡ old.entries
-    → a ≡ record old { gate = 8; entries = 0; switched = false; chain = Some first_chain; held = []; last = [] } → OnlyRead (view a.disk) (view b.disk) → b.limit ≡ a.limit → b.ended ≡ None
-    → ((h : List Entry) → IsReading view old h → IsChainOf c h) → new ≡ record b { gate = gate; entries = entries; switched = false; chain = c; held = []; last = [] } → LookedOn view old new
+    → a ≡ record old { gate = 8; entries = 0; switched = false; chain = Some first_chain; held = []; last = []; at = 0 } → OnlyRead (view a.disk) (view b.disk) → b.limit ≡ a.limit → b.ended ≡ None
+    → ((h : List Entry) → IsReading view old h → IsChainOf c h) → new ≡ record b { gate = gate; entries = entries; switched = false; chain = c; held = []; last = []; at = 0 } → LookedOn view old new
 found_again {D = D} view old a b new gate entries c on off gate_is entries_is first read limit going chain_is last =
     let from : a.disk ≡ old.disk = ap (λ (v : Reading D). v.disk) first in
     let to : new.disk ≡ b.disk = ap (λ (v : Reading D). v.disk) last in

@@ -4,7 +4,6 @@ use Rattle.std.specs.Int.{to_be_bytes, w32}
 use Rattle.std.proofs.lemmas.List.{drop-drop, take_at, drop_at}
 use Rattle.mc_outside.specs.Bytes.{BeginsWith}
 use Rattle.mc_outside.specs.DiskView.{DiskView, OnlyRead}
-use Rattle.mc_records.specs.Entry.{payload}
 use Rattle.mc_records.specs.Sizes.{tail_by, tail_bytes}
 use Rattle.scrip_journal.specs.States.{Reading, known_chain}
 use Rattle.scrip_journal.specs.Replays.{ReadAhead, AllHeld, IsFrame, frame_size}
@@ -37,18 +36,18 @@ module _ {D : Type 0} (view : D → DiskView) (old new : Reading D) (n : ℕ) (p
       nothing (x ∷ p) e = absurd (omega (arith, e))
 
 -- the payload of a frame stands behind the gate and the length
-pub payload_in : (f : Found) (switched : Bool) (chain : Option (List ℕ)) (gate : ℕ) (held : List ℕ) (g : IsFrame f switched chain gate held) → take f.bytes (drop 5 held) ≡ payload g.next
+pub payload_in : (f : Found) (switched : Bool) (chain : Option (List ℕ)) (gate : ℕ) (held : List ℕ) (g : IsFrame f switched chain gate held) → take f.bytes (drop 5 held) ≡ g.bytes
 payload_in f switched chain gate held g =
     let bytes = to_be_bytes w32 f.bytes in
     let rest = tail_by switched (known_chain f.chain) ++ g.rest in
     ap (λ (l : List ℕ). take f.bytes (drop 5 l)) g.shape
-    ∙ ap (λ (l : List ℕ). take f.bytes l) (drop_at bytes (payload g.next ++ rest) 4 refl)
-    ∙ take_at (payload g.next) rest f.bytes g.length_is
+    ∙ ap (λ (l : List ℕ). take f.bytes l) (drop_at bytes (g.bytes ++ rest) 4 refl)
+    ∙ take_at g.bytes rest f.bytes g.length_is
 
 pub frame_long : (f : Found) (switched : Bool) (chain : Option (List ℕ)) (gate : ℕ) (held : List ℕ) (g : IsFrame f switched chain gate held) → frame_size f switched ≤ length held
 frame_long f switched chain gate held g =
     let rest = tail_by switched (known_chain f.chain) ++ g.rest in
-    omega (arith, ap (λ (l : List ℕ). length l) g.shape, length-append (to_be_bytes w32 f.bytes) (payload g.next ++ rest), length-append (payload g.next) rest, length-append (tail_by switched (known_chain f.chain)) g.rest, g.length_is, chain_long)
+    omega (arith, ap (λ (l : List ℕ). length l) g.shape, length-append (to_be_bytes w32 f.bytes) (g.bytes ++ rest), length-append g.bytes rest, length-append (tail_by switched (known_chain f.chain)) g.rest, g.length_is, chain_long)
   where
     chain_long : length (tail_by switched (known_chain f.chain)) ≡ tail_bytes switched
-    chain_long = ap (λ (c : Option (List ℕ)). length (tail_by switched (known_chain c))) g.chain_is ∙ tail_long switched chain (payload g.next)
+    chain_long = ap (λ (c : Option (List ℕ)). length (tail_by switched (known_chain c))) g.chain_is ∙ tail_long switched chain g.bytes

@@ -5,12 +5,13 @@ use Rattle.std.specs.Int.{to_be_bytes, w32}
 use Rattle.std.proofs.lemmas.List.{drop_at}
 use Rattle.mc_outside.specs.Bytes.{BeginsWith}
 use Rattle.mc_outside.specs.DiskView.{DiskView}
-use Rattle.mc_records.specs.Entry.{Entry, payload}
+use Rattle.mc_records.specs.Entry.{Entry, Fits, payload}
+use Rattle.mc_records.specs.Chains.{is_switch}
 use Rattle.mc_records.specs.Sizes.{tail, tail_by, tail_bytes, size}
 use Rattle.mc_records.proofs.ChainLaws.{has_switch-more}
 use Rattle.mc_records.proofs.SizeLaws.{length-tail, tail_size-by}
 use Rattle.scrip_journal.specs.Layout.{body, framed, next_of, at_end, spoiled, unchained, Encodes, IsSpoiled, IsUnchained}
-use Rattle.scrip_journal.specs.States.{Reading, AtRest, IsReading, IsJournal, EndedBy, IsChainOf, known_chain}
+use Rattle.scrip_journal.specs.States.{Reading, AtRest, IsReading, IsJournal, EndedBy, IsChainOf, known_chain, chain_with}
 use Rattle.scrip_journal.specs.Replays.{HeldOf, ReadAhead, IsFrame, frame_size, RestsBehind}
 use Rattle.scrip_journal.specs.declared.replay.Found.{Found}
 use Rattle.scrip_journal.specs.declared.ending.Ending.{Ending}
@@ -78,41 +79,45 @@ module _ {D : Type 0} (view : D → DiskView) (a : Reading D) (h : List Entry) (
     synced = r.synced;
   })
 
-  -- the next entry was taken off
-  pub next_reading : (b : Reading D) (f : Found) (g : IsFrame f a.switched a.chain a.gate a.held) → a.ended ≡ None → (f.switches ≡ true → IsSome a.chain)
-      → b ≡ record a { gate = a.gate + frame_size f a.switched; entries = a.entries + 1; switched = a.switched || f.switches; chain = f.chain; before = known_chain a.chain; held = drop (frame_size f a.switched) a.held; last = b.last }
-      → IsReading view b (h ++ g.next ∷ [])
-  next_reading b f g on known is =
+  -- the payload of the next entry was taken off
+  pub next_reading : (b : Reading D) (f : Found) (g : IsFrame f a.switched a.chain a.gate a.held) (e : Entry) → Fits e → g.bytes ≡ payload e → a.ended ≡ None → (f.switches ≡ true → IsSome a.chain)
+      → b ≡ record a { gate = a.gate + frame_size f a.switched; entries = a.entries + 1; switched = a.switched || f.switches; chain = f.chain; before = known_chain a.chain; held = drop (frame_size f a.switched) a.held; last = b.last; at = a.gate + 5 }
+      → IsReading view b (h ++ e ∷ [])
+  next_reading b f g e fits of_entry on known is =
       let more = r.held_is in
       let n = f.bytes in
       let bytes = to_be_bytes w32 n in
       let end = tail_by a.switched (known_chain f.chain) in
-      let chain_is : IsChainOf f.chain (h ++ g.next ∷ []) = subst (λ (c : Option (List ℕ)). IsChainOf c (h ++ g.next ∷ [])) (sym g.chain_is) (chain_goes_on a.chain h g.next r.chain_is (λ on. known (g.switch_is ∙ on))) in
-      let end_is : end ≡ tail h g.next = tail_of a.switched f.chain h g.next r.switched_is chain_is in
-      let end_long : length end ≡ tail_bytes a.switched = ap (λ (l : List ℕ). length l) end_is ∙ length-tail h g.next ∙ tail_size-by h ∙ ap tail_bytes (sym r.switched_is) in
-      let front : List ℕ = 1 ∷ (bytes ++ (payload g.next ++ end)) in
-      let long : length front ≡ frame_size f a.switched = omega (arith, length-append bytes (payload g.next ++ end), length-append (payload g.next) end, g.length_is, end_long) in
+      let switch_is : f.switches ≡ is_switch e = g.switch_is e of_entry in
+      let length_is : length (payload e) ≡ n = ap (λ (l : List ℕ). length l) (sym of_entry) ∙ g.length_is in
+      let chain_is : IsChainOf f.chain (h ++ e ∷ []) =
+      subst (λ (c : Option (List ℕ)). IsChainOf c (h ++ e ∷ [])) (sym (g.chain_is ∙ ap (chain_with a.chain) of_entry)) (chain_goes_on a.chain h e r.chain_is (λ on. known (switch_is ∙ on))) in
+      let end_is : end ≡ tail h e = tail_of a.switched f.chain h e r.switched_is chain_is in
+      let end_long : length end ≡ tail_bytes a.switched = ap (λ (l : List ℕ). length l) end_is ∙ length-tail h e ∙ tail_size-by h ∙ ap tail_bytes (sym r.switched_is) in
+      let front : List ℕ = 1 ∷ (bytes ++ (payload e ++ end)) in
+      let long : length front ≡ frame_size f a.switched = omega (arith, length-append bytes (payload e ++ end), length-append (payload e) end, length_is, end_long) in
       let held : a.held ≡ front ++ g.rest =
-      g.shape ∙ ap (λ (l : List ℕ). 1 ∷ (bytes ++ l)) (sym (append_assoc (payload g.next) end g.rest)) ∙ ap (λ (l : List ℕ). 1 ∷ l) (sym (append_assoc bytes (payload g.next ++ end) g.rest)) in
+      g.shape ∙ ap (λ (l : List ℕ). 1 ∷ (bytes ++ (l ++ (end ++ g.rest)))) of_entry
+      ∙ ap (λ (l : List ℕ). 1 ∷ (bytes ++ l)) (sym (append_assoc (payload e) end g.rest)) ∙ ap (λ (l : List ℕ). 1 ∷ l) (sym (append_assoc bytes (payload e ++ end) g.rest)) in
       let rest : r.rest ≡ front ++ (g.rest ++ more.0) = more.1 ∙ ap (λ (l : List ℕ). l ++ more.0) held ∙ append_assoc front g.rest more.0 in
-      let frame : front ≡ 1 ∷ framed h g.next = frame_is h g.next n end g.length_is end_is in
-      let whole : r.bytes ≡ body (h ++ g.next ∷ []) ++ (g.rest ++ more.0) =
+      let frame : front ≡ 1 ∷ framed h e = frame_is h e n end length_is end_is in
+      let whole : r.bytes ≡ body (h ++ e ∷ []) ++ (g.rest ++ more.0) =
       r.shape ∙ ap (λ (l : List ℕ). body h ++ l) (rest ∙ ap (λ (l : List ℕ). l ++ (g.rest ++ more.0)) frame)
-      ∙ sym (append_assoc (body h) (1 ∷ framed h g.next) (g.rest ++ more.0)) ∙ ap (λ (l : List ℕ). l ++ (g.rest ++ more.0)) (sym (body_more h g.next)) in
-      let grown : size (h ++ g.next ∷ []) ≡ size h + frame_size f a.switched = omega (arith, size_more h g.next, g.length_is, end_long, ap (λ (l : List ℕ). length l) end_is) in
-      subst (λ (v : Reading D). IsReading view v (h ++ g.next ∷ [])) (sym is) (record {
+      ∙ sym (append_assoc (body h) (1 ∷ framed h e) (g.rest ++ more.0)) ∙ ap (λ (l : List ℕ). l ++ (g.rest ++ more.0)) (sym (body_more h e)) in
+      let grown : size (h ++ e ∷ []) ≡ size h + frame_size f a.switched = omega (arith, size_more h e, length_is, end_long, ap (λ (l : List ℕ). length l) end_is) in
+      subst (λ (v : Reading D). IsReading view v (h ++ e ∷ [])) (sym is) (record {
         bytes = r.bytes;
         told = r.told;
-        fits = fits_more h g.next r.fits g.fits;
+        fits = fits_more h e r.fits fits;
         most = omega (arith, grown, g.within, r.gate_is);
         rest = g.rest ++ more.0;
         shape = whole;
         gate_is = omega (arith, grown, r.gate_is);
-        entries_is = omega (arith, r.entries_is, length-append h (g.next ∷ []));
-        switched_is = ap₂ (λ (x y : Bool). x || y) r.switched_is g.switch_is ∙ sym (has_switch-more h g.next);
+        entries_is = omega (arith, r.entries_is, length-append h (e ∷ []));
+        switched_is = ap₂ (λ (x y : Bool). x || y) r.switched_is switch_is ∙ sym (has_switch-more h e);
         chain_is = chain_is;
         held_is = (more.0, ap (λ (l : List ℕ). l ++ more.0) (sym (ap (λ (l : List ℕ). drop (frame_size f a.switched) l) held ∙ drop_at front g.rest (frame_size f a.switched) long)));
-        ended_by = subst (λ (e : Option Ending). EndedBy e (next_of (h ++ g.next ∷ []) (g.rest ++ more.0))) (sym on) tt;
+        ended_by = subst (λ (x : Option Ending). EndedBy x (next_of (h ++ e ∷ []) (g.rest ++ more.0))) (sym on) tt;
         synced = r.synced;
       })
 

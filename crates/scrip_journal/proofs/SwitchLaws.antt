@@ -1,5 +1,5 @@
 -- What writing a Switch leaves.
-use Rattle.std.proofs.Common.{◌≡◌, ◌∙◌, ℕ, ◌+◌, ◌<◌, ◌≤◌, Bool, false, List, [], ◌++◌, length, Option, Some, inl, ⊎_elim, ◌↔◌, refl, sym, ap, subst, arith, length-append}
+use Rattle.std.proofs.Common.{◌≡◌, ◌∙◌, ℕ, ◌<◌, ◌≤◌, Bool, false, List, [], ◌++◌, length, Option, Some, inl, ⊎_elim, ◌↔◌, refl, sym, ap, subst, arith, length-append}
 use Rattle.std.specs.Prelude.{IsTrue}
 use Rattle.std.proofs.lemmas.Bool.{true≢false, cases_lt}
 use Rattle.mc_fields.specs.Field.{one, eight, number_bytes}

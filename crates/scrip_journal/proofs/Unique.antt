@@ -14,7 +14,7 @@ use Rattle.scrip_journal.proofs.Bodies.{body_long}
 use Rattle.scrip_journal.proofs.Nexts.{tail_there, behind_payload, closed_there}
 
 -- two lists with fronts of one length are split in one way
-append_split : (a b r s : List ℕ) → length a ≡ length b → a ++ r ≡ b ++ s → (a ≡ b) × (r ≡ s)
+pub append_split : (a b r s : List ℕ) → length a ≡ length b → a ++ r ≡ b ++ s → (a ≡ b) × (r ≡ s)
 append_split [] [] r s l e = (refl, e)
 append_split [] (y ∷ b) r s l e = absurd (omega arith)
 append_split (x ∷ a) [] r s l e = absurd (omega arith)

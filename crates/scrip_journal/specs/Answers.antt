@@ -15,3 +15,8 @@ answer_of Closed = Ok None
 answer_of (Spoiled place) = Err (BadRecord place)
 answer_of (Unchained place stood computed) = Err (BadChain place stood computed)
 answer_of Failed = Err Disk
+
+-- the bytes can't stand from this place on, unless the disk failed
+abbrev pub unless_failed : Ending → ℕ → Ending
+unless_failed Failed place = Failed
+unless_failed _ place = Spoiled place

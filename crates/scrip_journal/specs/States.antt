@@ -58,8 +58,9 @@ pub record WithNext (D : Type 0) : Type 0 where
   pub chain : Option (List ℕ)
 
 -- A journal that is read: the place of the next gate, how many entries stand before it, whether a Switch is among
--- them, and their chain, where it is known; the chain of those before the one read last, where that is a Switch; the
--- bytes from the gate on that were read ahead, the payload that was read last, and how the reading ended, where it has.
+-- them, and their chain, where it is known; the chain of those before the one found last, where that is a Switch; the
+-- bytes from the gate on that were read ahead, the payload that was found last and the place of its first byte, and how
+-- the reading ended, where it has.
 pub record Reading (D : Type 0) : Type 0 where
   pub disk : D
   pub gate : ℕ
@@ -70,6 +71,7 @@ pub record Reading (D : Type 0) : Type 0 where
   pub before : List ℕ
   pub held : List ℕ
   pub last : List ℕ
+  pub at : ℕ
   pub ended : Option Ending
 
 -- The disk tells its bytes, which encode these entries, and a crash now leaves just them.

@@ -35,7 +35,7 @@ pub enum ReplayFault {
 
 impl Ending {
     ghost use Rattle.std.specs.Prelude.{◌≡◌};
-    ghost use Rattle.scrip_journal.specs.Answers.{answer_of};
+    ghost use Rattle.scrip_journal.specs.Answers.{answer_of, unless_failed};
 
     /// The answer of a reading that ended so.
     pub(crate) fn answer(self) -> Result<Option<u64>, ReplayFault>
@@ -54,6 +54,16 @@ impl Ending {
                 computed,
             }),
             Ending::Failed => Err(ReplayFault::Disk),
+        }
+    }
+
+    /// That the bytes can't stand from this place on, unless the disk failed.
+    pub(crate) fn unless_failed(self, place: u64) -> Ending
+        ensures { result ≡ unless_failed self place }
+    {
+        match self {
+            Ending::Failed => Ending::Failed,
+            _ => Ending::Spoiled(place),
         }
     }
 }

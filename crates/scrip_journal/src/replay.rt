@@ -4,14 +4,13 @@ ghost use Rattle.std.specs.Prelude.{◌≡◌, ◌≢◌, ◌↔◌, ◌⊎◌, 
 ghost use Rattle.std.specs.Int.{w32, to_be_bytes, from_be_bytes};
 ghost use Rattle.mc_outside.specs.Bytes.{BeginsWith, HasCause};
 ghost use Rattle.mc_outside.specs.DiskView.{OnlyRead};
-ghost use Rattle.mc_records.specs.Chains.{first_chain, is_switch};
+ghost use Rattle.mc_records.specs.Chains.{first_chain};
 ghost use Rattle.mc_records.specs.Entry.{Entry, Fits, payload};
-ghost use Rattle.mc_records.specs.Forms.{entry_of};
 ghost use Rattle.mc_records.specs.Sizes.{tail_bytes};
 ghost use Rattle.mc_records.specs.Views.{entry};
 ghost use Rattle.scrip_journal.specs.States.{IsReading, IsJournal, chain_with};
 ghost use Rattle.scrip_journal.specs.Layout.{header};
-ghost use Rattle.scrip_journal.specs.Replays.{Advanced, ReadAhead, LookedOn, FaultsBy, IsPayload, IsFrame, IsTold, EndsHere, EndsReading, IsCut, AllHeld, TookEntry, FoundHeader, RestsBehind};
+ghost use Rattle.scrip_journal.specs.Replays.{Advanced, ReadAhead, LookedOn, FaultsBy, IsMalformed, IsPayload, IsFrame, IsTold, EndsHere, EndsBehind, EndsReading, IsCut, AllHeld, TookEntry, FoundHeader, RestsBehind};
 ghost use Rattle.mc_records.specs.declared.sizes.TheConstants.{PAYLOAD_BOUND};
 ghost use Rattle.scrip_journal.specs.declared.ending.Ending.TheVariants.{Closed};
 
@@ -20,7 +19,9 @@ use crate::cursor::{BUFFER, Cursor, FIRST_GATE, stands_with};
 use crate::ending::{Ending, ReplayFault};
 use crate::journal::Journal;
 use mc_outside::{Disk, DiskFault};
-use mc_records::{FIRST_CHAIN, Limits, PAYLOAD_BOUND, Record, read_record, tail_len};
+use mc_records::{
+    FIRST_CHAIN, Limits, PAYLOAD_BOUND, Record, begins_switch, read_record, tail_len,
+};
 use std::marker::Model;
 
 /// What a journal begins with.
@@ -31,8 +32,8 @@ const LAST_PLACE: u64 = Limits::MOST_JOURNAL;
 
 /// A journal that is read, entry by entry, from its first on. It owns its disk and never lends it.
 /// Contracts see the disk, the place of the next gate, how many entries stand before it, whether a Switch is among
-/// them, their chain, where it is known, the chain of those before the one read last, where that is a Switch, the bytes
-/// from the gate on that were read ahead, the payload read last, and how the reading ended.
+/// them, their chain, where it is known, the chain of those before the one found last, where that is a Switch, the bytes
+/// from the gate on that were read ahead, the payload found last and the place of its first byte, and how the reading ended.
 ///
 /// The disk is read once, in large pieces, and where a Switch stands what is before the first one once more, for its
 /// chain: of a book without one no chain is computed.
@@ -45,16 +46,18 @@ pub struct Replay<D> {
     pub(crate) chain: Option<[u8; 32]>,
     before: [u8; 32],
     buf: Vec<u8>,
-    // the bytes read ahead lie in `start..end` of the buffer, and the payload read last before, in `from..to`
+    // the bytes read ahead lie in `start..end` of the buffer, and the payload found last before, in `from..to`
     start: usize,
     end: usize,
     from: usize,
     to: usize,
+    // the place of that payload's first byte
+    at: u64,
     ended: Option<Ending>,
 }
 
-/// An entry that was looked at: the length of its payload, whether it is a Switch, and the chain of the entries up
-/// to and with it, where it is known.
+/// An entry that was looked at: the length of its payload, whether that can only be a Switch's, and the chain of the entries
+/// up to and with it, where it is known. Its payload was not read, and may be malformed.
 #[derive(Clone, Copy)]
 pub(crate) struct Found {
     bytes: usize,
@@ -70,21 +73,21 @@ impl<D> Model for Replay<D> {
 
     ghost Value = { Reading D };
 
-    ghost view = { λ r. record { disk = r.disk; gate = r.gate; entries = r.entries; limit = r.limit; switched = r.switched; chain = r.chain; before = r.before; held = slice_range r.buf.items r.start r.end; last = slice_range r.buf.items r.from r.to; ended = r.ended } };
+    ghost view = { λ r. record { disk = r.disk; gate = r.gate; entries = r.entries; limit = r.limit; switched = r.switched; chain = r.chain; before = r.before; held = slice_range r.buf.items r.start r.end; last = slice_range r.buf.items r.from r.to; at = r.at; ended = r.ended } };
 
-    ghost invariant = { λ r. ((r.gate < MOST_JOURNAL) × (r.entries ≤ r.gate) × (r.limit ≤ MOST_JOURNAL) × (length r.buf.items ≡ BUFFER) × (r.start ≤ r.end) × (r.end ≤ BUFFER) × (r.from ≤ r.to) × (r.to ≤ r.start)) × IsKnown r.switched r.chain };
+    ghost invariant = { λ r. ((r.gate < MOST_JOURNAL) × (r.entries ≤ r.gate) × (r.limit ≤ MOST_JOURNAL) × (length r.buf.items ≡ BUFFER) × (r.start ≤ r.end) × (r.end ≤ BUFFER) × (r.from ≤ r.to) × (r.to ≤ r.start) × (r.at + (r.to - r.from) ≤ MOST_JOURNAL)) × IsKnown r.switched r.chain };
 }
 
 impl<D: Disk> Replay<D> {
-    /// Reads the next entry and answers the place of its gate; `None` exactly at a closed gate.
-    /// [`Replay::record`] then has the entry. It takes no memory.
+    /// Finds the next entry and answers the place of its gate; `None` exactly at a closed gate.
+    /// [`Replay::record`] then reads the entry, and says where its payload is malformed. It takes no memory.
     ///
     /// `BadRecord` comes where the bytes can't stand, with the least of these places that applies: the
     /// disk's end where a gate, a length, a payload or a chain should go on; a length of 131,066 or more, and one
-    /// with which the entry, its chain and its closed gate would go past 2^40 bytes, each at its first byte; in a
-    /// payload the place that [`read_record`] gives. `BadChain` comes where 32 whole bytes of a chain are another
-    /// than that of the entries. `Disk` comes only where the disk failed. After `None` or a fault the same answer
-    /// comes again.
+    /// with which the entry, its chain and its closed gate would go past 2^40 bytes, each at its first byte; before
+    /// a chain that is cut or another, in a payload the place that [`read_record`] gives. `BadChain` comes where 32
+    /// whole bytes of a chain are another than that of the entries. `Disk` comes only where the disk failed. After
+    /// `None` or a fault the same answer comes again.
     pub fn next_record(&mut self) -> Result<Option<u64>, ReplayFault>
         ensures { Advanced D.disk D.disk_moved self.old result self.new }
     {
@@ -102,21 +105,23 @@ impl<D: Disk> Replay<D> {
         }
     }
 
-    /// The entry that was read last, which lies in the buffer up to the next call of
-    /// [`Replay::next_record`]; None where that call gave none. Its values are in the ranges of its kind.
-    pub fn record(&self) -> Option<Record<'_>>
-        ensures value { (e : Entry) → Fits e → self.now.last ≡ payload e
-            → option_map entry result ≡ Some e }
-        ensures fits { IfSome result (λ r. Fits (entry r)) }
-        ensures none { self.now.last ≡ [] → result ≡ None }
+    /// The entry that was found last, which lies in the buffer up to the next call of
+    /// [`Replay::next_record`]. Its values are in the ranges of its kind. `BadRecord` comes exactly where its payload is
+    /// malformed, with the place that [`read_record`] gives; the bytes then encode no entries, and nothing is to be read
+    /// behind it.
+    pub fn record(&self) -> Result<Record<'_>, ReplayFault>
+        ensures read { IfOk result (λ r. Fits (entry r) × (self.now.last ≡ payload (entry r))) }
+        ensures fault { IfErr result (IsMalformed self.now) }
     {
         match read_record(&self.buf[self.from..self.to]) {
-            Ok(record) => Some(record),
-            Err(_) => None,
+            Ok(record) => Ok(record),
+            Err(fault) => Err(ReplayFault::BadRecord {
+                place: self.at + fault.place as u64,
+            }),
         }
     }
 
-    /// The chain of the entries before the one that was read last, where that is a Switch; else any 32 bytes.
+    /// The chain of the entries before the one that was found last, where that is a Switch; else any 32 bytes.
     pub fn chain_before(&self) -> [u8; 32]
         ensures { result ≡ self.now.before }
     {
@@ -127,7 +132,7 @@ impl<D: Disk> Replay<D> {
     pub(crate) fn at_front(disk: D, limit: u64, buf: Vec<u8>) -> Replay<D>
         requires limit { limit ≤ Limits.MOST_JOURNAL }
         requires buffer { length buf.items ≡ BUFFER }
-        ensures { result ≡ record { disk = disk; gate = 0; entries = 0; limit = limit; switched = false; chain = None; before = first_chain; held = []; last = []; ended = None } }
+        ensures { result ≡ record { disk = disk; gate = 0; entries = 0; limit = limit; switched = false; chain = None; before = first_chain; held = []; last = []; at = 0; ended = None } }
     {
         Replay {
             disk,
@@ -142,13 +147,14 @@ impl<D: Disk> Replay<D> {
             end: 0,
             from: 0,
             to: 0,
+            at: 0,
             ended: None,
         }
     }
 
     /// Reads the header at the front of the disk. False where another eight bytes, or fewer, stand there.
     pub(crate) fn read_header(&mut self) -> Result<bool, DiskFault>
-        requires { self.old ≡ record { disk = self.old.disk; gate = 0; entries = 0; limit = self.old.limit; switched = false; chain = None; before = first_chain; held = []; last = []; ended = None } }
+        requires { self.old ≡ record { disk = self.old.disk; gate = 0; entries = 0; limit = self.old.limit; switched = false; chain = None; before = first_chain; held = []; last = []; at = 0; ended = None } }
         ensures moved { D.disk_moved self.old.disk self.new.disk }
         ensures only_read { OnlyRead (D.disk self.old.disk) (D.disk self.new.disk) }
         ensures cause { HasCause (D.disk self.old.disk).faults (D.disk self.new.disk).faults result }
@@ -212,6 +218,7 @@ impl<D: Disk> Replay<D> {
             end: _,
             from: _,
             to: _,
+            at: _,
             ended: _,
         } = self;
         let at = Cursor {
@@ -252,6 +259,7 @@ impl<D: Disk> Replay<D> {
             end: 0,
             from: 0,
             to: 0,
+            at: 0,
             ended: None,
         }
     }
@@ -260,7 +268,7 @@ impl<D: Disk> Replay<D> {
     pub(crate) fn stand_at(&mut self, gate: u64, entries: u64, chain: Option<[u8; 32]>)
         requires gate { gate < Limits.MOST_JOURNAL }
         requires entries { entries ≤ gate }
-        ensures { self.new ≡ record self.old { gate = gate; entries = entries; switched = false; chain = chain; held = []; last = [] } }
+        ensures { self.new ≡ record self.old { gate = gate; entries = entries; switched = false; chain = chain; held = []; last = []; at = 0 } }
     {
         self.gate = gate;
         self.entries = entries;
@@ -270,6 +278,7 @@ impl<D: Disk> Replay<D> {
         self.end = 0;
         self.from = 0;
         self.to = 0;
+        self.at = 0;
     }
 
     /// The disk, as it is.
@@ -289,12 +298,13 @@ impl<D: Disk> Replay<D> {
             end: _,
             from: _,
             to: _,
+            at: _,
             ended: _,
         } = self;
         disk
     }
 
-    /// Looks for an entry behind the next gate. Where it is a Switch the chain of the entries before it is known then:
+    /// Looks for an entry behind the next gate. Where it may be a Switch the chain of the entries before it is known then:
     /// before the first Switch it is found now, and what is behind the gate is read anew.
     fn look_known(&mut self) -> Result<Found, Ending>
         requires going { self.old.ended ≡ None }
@@ -329,28 +339,28 @@ impl<D: Disk> Replay<D> {
             (λ f. IsFrame f self.new.switched self.new.chain self.new.gate self.new.held) }
         ensures ends { IfErr result (EndsHere D.disk self.old) }
     {
-        let (bytes, switches) = match self.look_payload() {
-            Ok(found) => found,
+        let bytes = match self.look_payload() {
+            Ok(bytes) => bytes,
             Err(ending) => return Err(ending),
         };
         match self.look_chain(bytes) {
             Ok(chain) => Ok(Found {
                 bytes,
-                switches,
+                switches: begins_switch(self.payload(bytes)),
                 chain,
             }),
             Err(ending) => Err(ending),
         }
     }
 
-    /// Looks for a payload behind the next gate. Answers its length, and whether it is that of a Switch; it is then
-    /// wholly in the buffer.
-    fn look_payload(&mut self) -> Result<(usize, bool), Ending>
+    /// Looks for a payload behind the next gate, and answers its length. It is then wholly in the buffer, and may be
+    /// malformed.
+    fn look_payload(&mut self) -> Result<usize, Ending>
         ensures moved { D.disk_moved self.old.disk self.new.disk }
         ensures ahead { ReadAhead D.disk self.old self.new }
         ensures cause { FaultsBy result (D.disk self.old.disk).faults (D.disk self.new.disk).faults }
-        ensures payload { IfOk result (λ p. (f : IsPayload p.0 self.new.switched self.new.gate self.new.held)
-            × (p.1 ≡ is_switch f.next)) }
+        ensures payload { IfOk result
+            (λ n. IsPayload n self.new.switched self.new.gate self.new.held) }
         ensures ends { IfErr result (EndsHere D.disk self.old) }
     {
         if let Err(ending) = self.hold(1) {
@@ -370,15 +380,11 @@ impl<D: Disk> Replay<D> {
         if let Err(ending) = self.hold(length + 5) {
             return Err(ending);
         }
-        let switches = match self.read_payload(length) {
-            Ok(switches) => switches,
-            Err(place) => return Err(Ending::Spoiled(self.gate + 5 + place as u64)),
-        };
-        Ok((length, switches))
+        Ok(length)
     }
 
     /// Looks for the chain behind a payload of this length, where a Switch stands, and answers the one that is
-    /// computed, where that before it is known.
+    /// computed, where that before it is known. Where it does not stand there, a malformed payload is told first.
     fn look_chain(&mut self, bytes: usize) -> Result<Option<[u8; 32]>, Ending>
         requires payload { IsPayload bytes self.old.switched self.old.gate self.old.held }
         ensures moved { D.disk_moved self.old.disk self.new.disk }
@@ -389,31 +395,44 @@ impl<D: Disk> Replay<D> {
     {
         let count = bytes + 5 + tail_len(self.switched) as usize;
         if let Err(ending) = self.hold(count) {
-            return Err(ending);
+            return Err(self.ends_behind(bytes, ending));
         }
-        let computed = self.payload_chain(bytes);
+        let computed = chain_with(self.chain, self.payload(bytes));
         if !self.switched {
             return Ok(computed);
         }
         let stood = self.chain_behind(bytes);
         let chain = known_chain(computed);
         if !is_same(&stood, &chain) {
-            return Err(Ending::Unchained {
+            let ending = Ending::Unchained {
                 place: self.gate + 5 + bytes as u64,
                 stood,
                 computed: chain,
-            });
+            };
+            return Err(self.ends_behind(bytes, ending));
         }
         Ok(computed)
     }
 
-    /// The chain of the entries up to and with that whose payload of this length is held, where that before it is known.
-    fn payload_chain(&self, bytes: usize) -> Option<[u8; 32]>
+    /// The payload of this length that is held behind the gate.
+    fn payload(&self, bytes: usize) -> &[u8]
         requires { bytes + 5 ≤ length self.now.held }
-        ensures { result ≡ chain_with self.now.chain (take bytes (drop 5 self.now.held)) }
+        ensures { result.now ≡ take bytes (drop 5 self.now.held) }
     {
         let from = self.start + 5;
-        chain_with(self.chain, &self.buf[from..from + bytes])
+        &self.buf[from..from + bytes]
+    }
+
+    /// How a reading ends that ends so behind a payload of this length: where that is malformed, there, unless the disk
+    /// failed.
+    fn ends_behind(&self, bytes: usize, ending: Ending) -> Ending
+        requires { bytes + 5 ≤ length self.now.held }
+        ensures { EndsBehind (take bytes (drop 5 self.now.held)) (self.now.gate + 5) ending result }
+    {
+        match read_record(self.payload(bytes)) {
+            Ok(_) => ending,
+            Err(fault) => ending.unless_failed(self.gate + 5 + fault.place as u64),
+        }
     }
 
     /// The chain that stands behind a payload of this length.
@@ -509,22 +528,6 @@ impl<D: Disk> Replay<D> {
         Ok(read)
     }
 
-    /// Whether the payload of this length behind the gate is that of a Switch; or where it is malformed, from its
-    /// front on.
-    fn read_payload(&self, count: usize) -> Result<bool, usize>
-        requires { count + 5 ≤ length self.now.held }
-        ensures fault { IfErr result
-            (λ place. entry_of (take count (drop 5 self.now.held)) ≡ Err place) }
-        ensures payload { IfOk result (λ switches. (e : Entry) × Fits e
-            × (take count (drop 5 self.now.held) ≡ payload e) × (switches ≡ is_switch e)) }
-    {
-        let from = self.start + 5;
-        match read_record(&self.buf[from..from + count]) {
-            Ok(record) => Ok(record.is_switch()),
-            Err(fault) => Err(fault.place),
-        }
-    }
-
     /// Takes the entry that was looked at. Answers the place of its gate.
     pub(crate) fn advance(&mut self, found: &Found) -> u64
         requires frame { IsFrame found.now self.old.switched self.old.chain self.old.gate self.old.held }
@@ -537,6 +540,7 @@ impl<D: Disk> Replay<D> {
         let size = bytes + 5 + tail_len(self.switched) as usize;
         self.from = self.start + 5;
         self.to = self.from + bytes;
+        self.at = gate + 5;
         self.start += size;
         self.gate = gate + size as u64;
         self.entries += 1;

@@ -1,4 +1,5 @@
 use Rattle.std.proofs.Common.{arith, refl}
+use Rattle.std.proofs.lemmas.List.Elements.{Contains-get_or}
 use Rattle.command_table.proofs.SpellLemmas.{each_last, each_next}
 use Rattle.command_table.proofs.may.first_unfit.Goals as goal
 
@@ -10,6 +11,9 @@ returns-then-not-may_be-clause-none c = (
       let may = c.may_be.ensures.1 next.0 in
       absurd (cc (may, c.if-not-may_be.true)),
 )
+
+pub returns-then-not-may_be-clause-listed : goal.returns-then-not-may_be-clause-listed
+returns-then-not-may_be-clause-listed c = Contains-get_or c.args.parameters.now c.loop-parameter.parameter-index _ c.loop-parameter-test.true
 
 pub loop-parameter-preserved : goal.loop-parameter-preserved
 loop-parameter-preserved c =

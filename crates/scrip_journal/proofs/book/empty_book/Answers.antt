@@ -19,10 +19,10 @@ returns-in-Ok-None-clause-exact g c x told =
 pub returns-in-Ok-Some-clause-exact : goal.returns-in-Ok-Some-clause-exact
 returns-in-Ok-Some-clause-exact g c x told =
     let r = c.in-Ok.ensures.opened x told in
-    let here = c.next_record.ensures.only_read.contents ∙ (c.in-Ok.ensures.read.contents ∙ told) in
+    let at = c.in-Ok.ensures.read.contents ∙ told in
     let reads = subst (λ (o : Option ℕ). ReadsOn g.D.Disk.disk [] r.bytes c.in-Ok.replay.gate (Ok o) c.next_record.new.self) c.in-Ok-Some.field-0-is (c.in-Ok-Some.ensures.reads [] r) in
-    cleared g.D.Disk.disk x c.empty_small-in-Ok-Some.result (no_more g.D.Disk.disk c.next_record.new.self reads.1 x reads.4 here)
-    (c.empty_small-in-Ok-Some.ensures.exact x (ap (λ (d : g.row.D.Denot). (g.D.Disk.disk d).contents) c.close.ensures ∙ here))
+    cleared g.D.Disk.disk x c.empty_small-in-Ok-Some.result (no_more r.bytes x reads.1.behind reads.1.opened (bytes_told g.D.Disk.disk c.in-Ok.replay [] x r at))
+    (c.empty_small-in-Ok-Some.ensures.exact x (ap (λ (d : g.row.D.Denot). (g.D.Disk.disk d).contents) c.close.ensures ∙ (c.next_record.ensures.only_read.contents ∙ at)))
 
 pub returns-in-Err-BadRecord-clause-exact : goal.returns-in-Err-BadRecord-clause-exact
 returns-in-Err-BadRecord-clause-exact g c x told =
@@ -55,11 +55,11 @@ returns-in-Err-NotJournal-clause-ran g c x told =
 pub returns-in-Ok-Some-clause-ran : goal.returns-in-Ok-Some-clause-ran
 returns-in-Ok-Some-clause-ran g c x told =
     let r = c.in-Ok.ensures.opened x told in
-    let here = c.next_record.ensures.only_read.contents ∙ (c.in-Ok.ensures.read.contents ∙ told) in
+    let at = c.in-Ok.ensures.read.contents ∙ told in
     let reads = subst (λ (o : Option ℕ). ReadsOn g.D.Disk.disk [] r.bytes c.in-Ok.replay.gate (Ok o) c.next_record.new.self) c.in-Ok-Some.field-0-is (c.in-Ok-Some.ensures.reads [] r) in
     let read = subst (λ (d : g.row.D.Denot). OnlyRead (g.D.Disk.disk c.in-Ok.replay.disk) (g.D.Disk.disk d)) (sym c.close.ensures) c.next_record.ensures.only_read in
     read_then_emptied g.D.Disk.disk (g.D.Disk.disk c.args.disk) c.in-Ok.replay c.close.result (book_disk c.empty_small-in-Ok-Some.result) x c.in-Ok.ensures.read r told read
-    (no_more g.D.Disk.disk c.next_record.new.self reads.1 x reads.4 here) c.empty_small-in-Ok-Some.ensures.ran
+    (no_more r.bytes x reads.1.behind reads.1.opened (bytes_told g.D.Disk.disk c.in-Ok.replay [] x r at)) c.empty_small-in-Ok-Some.ensures.ran
 
 pub returns-in-Err-BadRecord-clause-ran : goal.returns-in-Err-BadRecord-clause-ran
 returns-in-Err-BadRecord-clause-ran g c x told =
@@ -92,9 +92,9 @@ returns-in-Err-NotJournal-clause-uncut g c x told stands = absurd ((rw c.in-Err-
 pub returns-in-Ok-Some-clause-uncut : goal.returns-in-Ok-Some-clause-uncut
 returns-in-Ok-Some-clause-uncut g c x told stands =
     let r = c.in-Ok.ensures.opened x told in
-    let here = c.next_record.ensures.only_read.contents ∙ (c.in-Ok.ensures.read.contents ∙ told) in
+    let at = c.in-Ok.ensures.read.contents ∙ told in
     let reads = subst (λ (o : Option ℕ). ReadsOn g.D.Disk.disk [] r.bytes c.in-Ok.replay.gate (Ok o) c.next_record.new.self) c.in-Ok-Some.field-0-is (c.in-Ok-Some.ensures.reads [] r) in
-    absurd (no_more g.D.Disk.disk c.next_record.new.self reads.1 x reads.4 here stands)
+    absurd (no_more r.bytes x reads.1.behind reads.1.opened (bytes_told g.D.Disk.disk c.in-Ok.replay [] x r at) stands)
 
 pub returns-in-Err-BadRecord-clause-uncut : goal.returns-in-Err-BadRecord-clause-uncut
 returns-in-Err-BadRecord-clause-uncut g c x told stands =

@@ -1,4 +1,4 @@
-use Rattle.std.proofs.Common.{◌+◌, ◌∷◌, ◌++◌, [], List, ℕ, refl, sym, ap, subst, arith}
+use Rattle.std.proofs.Common.{◌∷◌, ◌++◌, [], List, ℕ, refl, sym, ap, subst, arith}
 use Rattle.mc_outside.specs.DiskView.{Ran}
 use Rattle.mc_records.specs.Chains as chains
 use Rattle.mc_records.specs.Entry.{Switch}

@@ -1,6 +1,5 @@
 use Rattle.std.proofs.Common.{◌+◌, ◌||◌, sym, ◌∙◌, ap, ap₂, subst, arith, length, drop, Bool, Option, List, ℕ}
 use Rattle.std.specs.Prelude.{slice_range, IsSome}
-use Rattle.mc_records.specs.Entry.{payload}
 use Rattle.mc_records.specs.Sizes.{tail_bytes}
 use Rattle.scrip_journal.specs.States.{Reading, IsKnown, known_chain}
 use Rattle.scrip_journal.specs.Replays.{frame_size}
@@ -16,7 +15,7 @@ invariant_of-self g c =
     let switched = ap (λ (v : Reading g.row.D.Denot). tail_bytes v.switched) c.self.view_is in
     let f = c.args.found.now in
     let was : IsKnown c.args.self.now.switched c.args.self.now.chain = subst (λ (v : Reading g.row.D.Denot). IsKnown v.switched v.chain) c.self.view_is c.self.invariant.1 in
-    let known = known_more c.args.self.now.switched f.switches c.args.self.now.chain (payload c.requires.frame.next) was c.requires.known in (
+    let known = known_more c.args.self.now.switched f.switches c.args.self.now.chain c.requires.frame.bytes was c.requires.known in (
       omega (
         arith,
         held,
@@ -46,8 +45,8 @@ returns g c =
     let back = back_of_window buf start end size (omega (arith, ap (λ (l : List ℕ). length l) held, window_long buf start end (omega arith), long, switched)) in (
       ap (λ (v : Reading g.row.D.Denot). v.gate) c.self.view_is,
       λ frame. sym part ∙ payload_in f c.args.self.now.switched c.args.self.now.chain c.args.self.now.gate c.args.self.now.held frame,
-      ap₂ (λ (k : ℕ) (b : Bool). record { disk = c.self.inside.disk; gate = c.self.inside.gate + k; entries = c.self.inside.entries + 1; limit = c.self.inside.limit; switched = b; chain = f.chain; before = c.known_chain-self-inside.result; held = slice_range buf (start + k) end; last = last; ended = c.self.inside.ended })
+      ap₂ (λ (k : ℕ) (b : Bool). record { disk = c.self.inside.disk; gate = c.self.inside.gate + k; entries = c.self.inside.entries + 1; limit = c.self.inside.limit; switched = b; chain = f.chain; before = c.known_chain-self-inside.result; held = slice_range buf (start + k) end; last = last; at = c.self.inside.gate + 5; ended = c.self.inside.ended })
           (ap (λ (t : ℕ). n + 5 + t) c.tail_len.ensures.value) c.stands_with-self-inside.ensures
-          ∙ ap₂ (λ (h before : List ℕ). record { disk = c.self.inside.disk; gate = c.self.inside.gate + size; entries = c.self.inside.entries + 1; limit = c.self.inside.limit; switched = c.self.inside.switched || f.switches; chain = f.chain; before = before; held = h; last = last; ended = c.self.inside.ended }) back c.known_chain-self-inside.ensures
-          ∙ ap (λ (v : Reading g.row.D.Denot). record v { gate = v.gate + frame_size f v.switched; entries = v.entries + 1; switched = v.switched || f.switches; chain = f.chain; before = known_chain v.chain; held = drop (frame_size f v.switched) v.held; last = last }) c.self.view_is,
+          ∙ ap₂ (λ (h before : List ℕ). record { disk = c.self.inside.disk; gate = c.self.inside.gate + size; entries = c.self.inside.entries + 1; limit = c.self.inside.limit; switched = c.self.inside.switched || f.switches; chain = f.chain; before = before; held = h; last = last; at = c.self.inside.gate + 5; ended = c.self.inside.ended }) back c.known_chain-self-inside.ensures
+          ∙ ap (λ (v : Reading g.row.D.Denot). record v { gate = v.gate + frame_size f v.switched; entries = v.entries + 1; switched = v.switched || f.switches; chain = f.chain; before = known_chain v.chain; held = drop (frame_size f v.switched) v.held; last = last; at = v.gate + 5 }) c.self.view_is,
     )

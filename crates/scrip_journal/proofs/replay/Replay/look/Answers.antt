@@ -1,5 +1,4 @@
-use Rattle.std.proofs.Common.{sym, ap, ◌∙◌}
-use Rattle.mc_records.specs.Chains.{is_switch}
+use Rattle.std.proofs.Common.{◌∙◌}
 use Rattle.scrip_journal.proofs.Looking.{ahead_then, ends_then, payload_after, framed_here}
 use Rattle.scrip_journal.proofs.replay.Replay.look.Goals as goal
 
@@ -14,6 +13,6 @@ returns-in-Ok-look_chain-clause-ahead g c = ahead_then g.D.Disk.disk _ _ _ c.loo
 
 pub returns-in-Ok-look_chain-clause-frame : goal.returns-in-Ok-look_chain-clause-frame
 returns-in-Ok-look_chain-clause-frame g c =
-    let found = c.in-Ok.ensures.payload in
-    let p = payload_after g.D.Disk.disk c.look_payload.new.self c.look_chain.new.self c.look_chain.ensures.ahead c.in-Ok.found.0 found.0 in
-    framed_here (record { bytes = c.in-Ok.found.0; switches = c.in-Ok.found.1; chain = c.in-Ok-look_chain.chain }) c.look_chain.new.self p.0 (found.1 ∙ ap is_switch (sym p.1)) c.in-Ok-look_chain.ensures.chained
+    let n = c.in-Ok.bytes in
+    let p = payload_after g.D.Disk.disk c.look_payload.new.self c.look_chain.new.self c.look_chain.ensures.ahead n c.in-Ok.ensures.payload in
+    framed_here (record { bytes = n; switches = c.begins_switch.result; chain = c.in-Ok-look_chain.chain }) c.look_chain.new.self p (λ e is. c.begins_switch.ensures e (c.payload.ensures ∙ is)) c.in-Ok-look_chain.ensures.chained

@@ -1,11 +1,10 @@
 use Rattle.std.proofs.Common.{◌≡◌, ◌+◌, refl, sym, ◌∙◌, ap, subst, arith, List, [], ◌∷◌, ℕ}
 use Rattle.std.specs.Int.{w32, from_be_bytes}
-use Rattle.mc_records.specs.Chains.{is_switch}
 use Rattle.mc_records.specs.Sizes.{tail_bytes}
 use Rattle.scrip_journal.specs.States.{Reading}
 use Rattle.scrip_journal.specs.Replays.{EndsHere}
 use Rattle.scrip_journal.specs.declared.ending.Ending.TheVariants.{Spoiled}
-use Rattle.scrip_journal.proofs.Looking.{ahead_then, cut_then, far_before, near_before, ends_at_length, ends_in_payload, ends_at_fault, payload_here, length_stays, begins_still, longer}
+use Rattle.scrip_journal.proofs.Looking.{ahead_then, cut_then, far_before, near_before, ends_at_length, ends_in_payload, payload_here, length_stays, begins_still, longer}
 use Rattle.scrip_journal.proofs.replay.Replay.look_payload.Goals as goal
 
 pub returns-then-is_far-clause-ahead : goal.returns-then-is_far-clause-ahead
@@ -43,30 +42,6 @@ returns-in-Err-hold-2-clause-ends g c =
     (near_before g.D.Disk.disk c.args.self.now c.hold-2.new.self ahead_to_length c.payload_length-length.result right.1) c.in-Err-hold-2.ending
     (cut_then g.D.Disk.disk c.args.self.now c.hold-2.new.self c.hold-3.new.self _ c.in-Err-hold-2.ending ahead_to_length c.in-Err-hold-2.ensures.short)
 
-pub returns-in-Err-read_payload-clause-moved : goal.returns-in-Err-read_payload-clause-moved
-returns-in-Err-read_payload-clause-moved g c =
-    g.met.D.Disk.disk_goes_on _ _ _ (g.met.D.Disk.disk_goes_on _ _ _ c.hold.ensures.moved c.hold-2.ensures.moved) c.hold-3.ensures.moved
-
-pub returns-in-Err-read_payload-clause-ahead : goal.returns-in-Err-read_payload-clause-ahead
-returns-in-Err-read_payload-clause-ahead g c =
-    ahead_then g.D.Disk.disk _ _ _ (ahead_then g.D.Disk.disk _ _ _ c.hold.ensures.ahead c.hold-2.ensures.ahead) c.hold-3.ensures.ahead
-
-pub returns-in-Err-read_payload-clause-ends : goal.returns-in-Err-read_payload-clause-ends
-returns-in-Err-read_payload-clause-ends g c =
-    let ahead_to_length = ahead_then g.D.Disk.disk _ _ _ c.hold.ensures.ahead c.hold-2.ensures.ahead in
-    let ahead = ahead_then g.D.Disk.disk _ _ _ ahead_to_length c.hold-3.ensures.ahead in
-    let more = c.hold-3.ensures.ahead.more in
-    let opened = begins_still (1 ∷ []) c.hold-2.new.self.held c.hold-3.new.self.held (begins_still (1 ∷ []) c.hold.new.self.held c.hold-2.new.self.held (c.if-not-is_open.ensures.opened refl) c.hold-2.ensures.ahead.more) more in
-    let stays = length_stays c.hold-2.new.self.held c.hold-3.new.self.held more c.in_default-hold.ensures.enough in
-    let n_is = ap (λ (l : List ℕ). from_be_bytes w32 l) stays ∙ sym c.payload_length-length.ensures.value in
-    let five = longer c.hold-2.new.self.held c.hold-3.new.self.held more 5 c.in_default-hold.ensures.enough in
-    let there = ap (λ (v : Reading g.row.D.Denot). v.gate) c.self-2.view_is in
-    let gate : c.args.self.now.gate ≡ c.self-2.inside.gate = omega (arith, there, ahead.same.gate) in
-    let right = c.if-is_far.ensures.right refl in
-    subst (λ (k : ℕ). EndsHere g.D.Disk.disk c.args.self.now (Spoiled (k + 5 + c.in-Err-read_payload.place))) gate
-    (ends_at_fault g.D.Disk.disk c.args.self.now c.hold-3.new.self ahead opened five c.payload_length-length.result n_is right.0
-    (near_before g.D.Disk.disk c.args.self.now c.hold-2.new.self ahead_to_length c.payload_length-length.result right.1) c.in_default-hold-2.ensures.enough c.in-Err-read_payload.place c.in-Err-read_payload.ensures.fault)
-
 pub returns-clause-moved : goal.returns-clause-moved
 returns-clause-moved g c =
     g.met.D.Disk.disk_goes_on _ _ _ (g.met.D.Disk.disk_goes_on _ _ _ c.hold.ensures.moved c.hold-2.ensures.moved) c.hold-3.ensures.moved
@@ -85,7 +60,5 @@ returns-clause-payload g c =
     let n_is = ap (λ (l : List ℕ). from_be_bytes w32 l) stays ∙ sym c.payload_length-length.ensures.value in
     let five = longer c.hold-2.new.self.held c.hold-3.new.self.held more 5 c.in_default-hold.ensures.enough in
     let right = c.if-is_far.ensures.right refl in
-    let found = c.in-Ok.ensures.payload in
-    let p = payload_here g.D.Disk.disk c.args.self.now c.hold-3.new.self ahead opened five c.payload_length-length.result n_is c.hold-3.new.self.switched
-    (omega (arith, right.1, c.hold-3.ensures.ahead.same.gate, ap tail_bytes c.hold-3.ensures.ahead.same.switched)) c.in_default-hold-2.ensures.enough (stays ∙ c.payload_length-length.ensures.bytes) found.0 found.1 found.2 in
-    (p.0, found.3 ∙ ap is_switch (sym p.1))
+    payload_here g.D.Disk.disk c.args.self.now c.hold-3.new.self ahead opened five c.payload_length-length.result n_is c.hold-3.new.self.switched right.0
+    (omega (arith, right.1, c.hold-3.ensures.ahead.same.gate, ap tail_bytes c.hold-3.ensures.ahead.same.switched)) c.in_default-hold-2.ensures.enough (stays ∙ c.payload_length-length.ensures.bytes)

@@ -2,7 +2,6 @@ use Rattle.std.proofs.Common.{◌≡◌, ◌+◌, ◌<◌, List, ℕ, Option, is
 use Rattle.std.specs.Prelude.{IsSome}
 use Rattle.mc_outside.specs.DiskView.{OnlyRead}
 use Rattle.mc_outside.proofs.Runs.{read_then}
-use Rattle.mc_records.specs.Entry.{payload}
 use Rattle.mc_records.specs.Sizes.{size}
 use Rattle.scrip_journal.specs.States.{Reading}
 use Rattle.scrip_journal.proofs.Known.{known_with}
@@ -24,7 +23,7 @@ entries-preserved g c =
       faults = ap (λ (d : g.row.D.Denot). (g.D.Disk.disk d).faults) disk ∙ c.in-Ok.ensures.cause ∙ was.faults;
       limit = ap (λ (v : Reading g.row.D.Denot). v.limit) took.2 ∙ ahead.same.limit ∙ was.limit;
       going = ap (λ (v : Reading g.row.D.Denot). v.ended) took.2 ∙ ahead.same.ended ∙ was.going;
-      known = ap (λ (v : Reading g.row.D.Denot). is_some v.chain) took.2 ∙ ap (λ (k : Option (List ℕ)). is_some k) frame.chain_is ∙ known_with c.look.new.self.chain (payload frame.next) known;
+      known = ap (λ (v : Reading g.row.D.Denot). is_some v.chain) took.2 ∙ ap (λ (k : Option (List ℕ)). is_some k) frame.chain_is ∙ known_with c.look.new.self.chain frame.bytes known;
       passes = λ h end p.
           let less : c.entries.self.gate + 1 < size h = omega (arith, c.entries-test.true, there, end) in
           passes_more g.D.Disk.disk c.entries.self h (was.passes h end p) c.look.new.self c.advance.new.self c.in-Ok.found c.advance.result less ahead was.going known frame took;
