@@ -167,11 +167,14 @@ fn show_found(
     replay: &Replay<Stage>,
     out: &mut Lines,
 ) -> Result<(), ReplayFault> {
-    let record = replay.record()?;
+    let mut payload = Vec::new(alloc);
+    let is_written = match replay.record() {
+        Ok(record) => write_record(&record, &mut payload).is_ok(),
+        Err(fault) => return Err(fault),
+    };
     out.start("entry");
     out.number(gate);
-    let mut payload = Vec::new(alloc);
-    if write_record(&record, &mut payload).is_ok() {
+    if is_written {
         out.digest(&payload);
     }
     out.end();

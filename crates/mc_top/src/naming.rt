@@ -1,5 +1,5 @@
 ghost use Rattle.std.specs.Prelude.{◌≡◌, map, string_bytes, IfOk};
-ghost use Rattle.mc_top.specs.Places.{ArePlaces, AreProxyPlaces, audited_places, founded_places, no_places, operated_places, proxied_places, served_places, wallet_places};
+ghost use Rattle.mc_top.specs.Places.{ArePlaces, AreProxyPlaces, audited_places, founded_places, no_places, operated_places, places_of, proxied_places, served_places, wallet_places};
 
 use crate::named::Places;
 use mc_base::{List, NoMemory};
@@ -15,21 +15,29 @@ pub fn places(alloc: Global, words: &[String]) -> Result<Places, NoMemory>
     ensures { IfOk result (ArePlaces (map string_bytes words.now)) }
 {
     match command_of(alloc, words)? {
-        Some(Command::Init(founder)) => founded(alloc, founder.book()),
-        Some(Command::BrokerInit(founder)) => founded(alloc, founder.book()),
-        Some(Command::Serve(server)) | Some(Command::BrokerServe(server)) => served(alloc, &server),
-        Some(Command::Operate(operation)) => operated(alloc, operation.book()),
-        Some(Command::State(stating)) => operated(alloc, stating.book()),
-        Some(Command::BrokerOperate(operation)) => operated(alloc, operation.book()),
-        Some(Command::Settle(settling)) => operated(alloc, settling.book()),
-        Some(Command::WalletInit(founder)) => founded(alloc, founder.book()),
-        Some(Command::WalletOperate(operation)) => connected(alloc, &operation),
-        Some(Command::Report(reporting)) => audited(alloc, reporting.books()),
-        Some(Command::Chains(chained)) => audited(alloc, chained.books.list()),
-        Some(Command::Tree(tree)) => audited(alloc, tree.books.list()),
-        Some(Command::Once(_)) => Ok(nowhere(alloc)),
-        Some(Command::Play(_)) => Ok(nowhere(alloc)),
+        Some(command) => command_places(alloc, &command),
         None => proxied(alloc, words),
+    }
+}
+
+/// The places of a command.
+fn command_places(alloc: Global, command: &Command<'_>) -> Result<Places, NoMemory>
+    ensures { IfOk result (λ places. places ≡ places_of command.now) }
+{
+    match command {
+        Command::Init(founder) => founded(alloc, founder.book()),
+        Command::BrokerInit(founder) => founded(alloc, founder.book()),
+        Command::Serve(server) | Command::BrokerServe(server) => served(alloc, server),
+        Command::Operate(operation) => operated(alloc, operation.book()),
+        Command::State(stating) => operated(alloc, stating.book()),
+        Command::BrokerOperate(operation) => operated(alloc, operation.book()),
+        Command::Settle(settling) => operated(alloc, settling.book()),
+        Command::WalletInit(founder) => founded(alloc, founder.book()),
+        Command::WalletOperate(operation) => connected(alloc, operation),
+        Command::Report(reporting) => audited(alloc, reporting.books()),
+        Command::Chains(chained) => audited(alloc, chained.books.list()),
+        Command::Tree(tree) => audited(alloc, tree.books.list()),
+        Command::Once(_) | Command::Play(_) => Ok(nowhere(alloc)),
     }
 }
 

@@ -1,5 +1,5 @@
 -- The entries of an opening have payloads, and each may follow those before it.
-use Rattle.std.proofs.Common.{◌≡◌, ℕ, ◌+◌, ◌≤◌, ◌^◌, false, List, [], ◌∷◌, ◌++◌, Ok, refl, sym, subst, arith}
+use Rattle.std.proofs.Common.{◌≡◌, ℕ, ◌+◌, ◌≤◌, ◌^◌, false, List, [], ◌∷◌, ◌++◌, Result, Ok, Err, IfOk, refl, sym, subst, arith}
 use Rattle.std.specs.Prelude.{nat_lt}
 use Rattle.std.proofs.lemmas.Bool.{le-ltb}
 use Rattle.scrip_form.specs.Issuing.{Issuing}
@@ -91,3 +91,8 @@ may_enter {h = h} same may = subst (λ (e : Entry). ComesNext h e) (sym same) ma
 
 pub open_with : {b : BenchView Shelf} (h : History) {e f : Entry} → e ≡ f → IsOpen b (h ++ e ∷ []) → IsOpen b (h ++ f ∷ [])
 open_with {b = b} h same is = subst (λ (e : Entry). IsOpen b (h ++ e ∷ [])) same is
+
+-- where there was memory for it
+pub open_last : {E : Type 0} (h : History) {e e' : Entry} → e ≡ e' → (before : BenchView Shelf) → IsOpen before h → (r : Result (BenchView Shelf) E) → IfOk r (λ b. (h : History) → IsOpen before h → IsOpen b (h ++ e ∷ [])) → IfOk r (λ b. IsOpen b (h ++ e' ∷ []))
+open_last h is before open' (Ok b) more = open_with h is (more h open')
+open_last h is before open' (Err x) more = more

@@ -5,7 +5,7 @@ ghost use Rattle.vendor_commands.specs.Opening.{IsOpen};
 ghost use Rattle.vendor_commands.specs.Play.{ArePlayLines, house_terms, play_founding, play_opening};
 
 use crate::lines::play_lines;
-use crate::shop::{enter, start};
+use crate::shop::{entered, start};
 use house_core::Bench;
 use house_serving::serve_bench;
 use mc_base::{List, NoMemory};
@@ -29,10 +29,18 @@ const KEEP: u32 = 60;
 pub fn answer_play(alloc: Global, count: u32) -> Result<List<u8>, NoMemory>
     ensures { IfOk result (ArePlayLines count) }
 {
-    heads_told_are_of_their_play();
     let mut bench = open_play(alloc)?;
+    answer_heads(alloc, &mut bench, count)
+}
+
+/// The same, in the house that was opened for it.
+fn answer_heads(alloc: Global, bench: &mut Bench<Shelf>, count: u32) -> Result<List<u8>, NoMemory>
+    requires { IsOpen bench.old play_opening }
+    ensures { IfOk result (ArePlayLines count) }
+{
+    heads_told_are_of_their_play();
     let mut heads = Heads::new(count);
-    let Ok(_links) = serve_bench(&mut bench, &mut heads, count.div_ceil(LINK_HEADS)) else {
+    let Ok(_links) = serve_bench(bench, &mut heads, count.div_ceil(LINK_HEADS)) else {
         return Err(NoMemory);
     };
     let tally = bench.tally();
@@ -61,10 +69,8 @@ fn open_play(alloc: Global) -> Result<Bench<Shelf>, NoMemory>
         kind: 0,
         contents: b"ok",
     };
-    let mut bench = found_play(alloc)?;
-    enter(&mut bench, &licence)?;
-    enter(&mut bench, &goods)?;
-    Ok(bench)
+    let bench = entered(found_play(alloc)?, &licence)?;
+    entered(bench, &goods)
 }
 
 /// The house as it is founded.

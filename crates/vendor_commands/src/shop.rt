@@ -43,10 +43,8 @@ pub(crate) fn open_shop(alloc: Global, shop: &Shop<'_>) -> Result<Bench<Shelf>, 
         moment: start(),
         terms: terms_of(shop, 1),
     };
-    let mut bench = found_shop(alloc, shop)?;
-    enter(&mut bench, &licence)?;
-    enter(&mut bench, &goods)?;
-    Ok(bench)
+    let bench = entered(found_shop(alloc, shop)?, &licence)?;
+    entered(bench, &goods)
 }
 
 /// The house that the shop is founded as.
@@ -77,8 +75,23 @@ fn terms_of(shop: &Shop<'_>, issuer: u8) -> Terms
     Terms::new(issuer, PERIOD, LIFE, secrets, secrets).unwrap()
 }
 
-/// Enters an entry that may follow and fits, so that only memory can be refused.
-pub(crate) fn enter(bench: &mut Bench<Shelf>, r: &Record<'_>) -> Result<(), NoMemory>
+/// The house with one entry more, which may follow and fits, so that only memory can be refused.
+pub(crate) fn entered(mut bench: Bench<Shelf>, r: &Record<'_>) -> Result<Bench<Shelf>, NoMemory>
+    requires fits { Fits (entry r.now) }
+    requires command { IsCommand (entry r.now) }
+    requires told { (h : History) → TellsChain h (entry r.now) }
+    requires time { moment_of (entry r.now) ≡ 0 }
+    requires may { (h : History) × IsOpen bench h × ComesNext h (entry r.now) }
+    ensures { IfOk result (λ b. (h : History) → IsOpen bench h → IsOpen b (h ++ entry r.now ∷ [])) }
+{
+    match enter(&mut bench, r) {
+        Ok(()) => Ok(bench),
+        Err(NoMemory) => Err(NoMemory),
+    }
+}
+
+/// Enters such an entry.
+fn enter(bench: &mut Bench<Shelf>, r: &Record<'_>) -> Result<(), NoMemory>
     requires fits { Fits (entry r.now) }
     requires command { IsCommand (entry r.now) }
     requires told { (h : History) → TellsChain h (entry r.now) }

@@ -4,4 +4,4 @@ use Rattle.mc_top.proofs.ProxyLemmas.{places_beside}
 use Rattle.mc_top.proofs.naming.places.Goals as goal
 
 pub returns-in-None : goal.returns-in-None
-returns-in-None c = places_beside (map string_bytes c.args.words.now) c.proxied.result (c.in_ok-founder.ensures.none (ap is_some c.in-None.is)) c.proxied.ensures
+returns-in-None c = places_beside (map string_bytes c.args.words.now) c.proxied.result (c.in_ok-command.ensures.none (ap is_some c.in-None.is)) c.proxied.ensures
