@@ -181,9 +181,11 @@ def prove_all(crates, jobs):
             ready = [it for it in todo if all(crates.library(dep).exists() for dep in crates.own(it))]
             for name in sorted(ready, key=chain.get, reverse=True)[: 0 if failed else jobs - len(running)]:
                 todo.remove(name)
-                # The one that most waits for may use all processors; the others share what it leaves.
+                # The one that most waits for may use all processors; the others an equal share each.
                 most = all(chain[name] >= chain[it] for it in (*todo, *running.values()))
-                running[workers.submit(prove, crates, name, jobs if most else 1)] = name
+                share = jobs if most else max(1, jobs // (len(running) + len(ready)))
+                ready.remove(name)
+                running[workers.submit(prove, crates, name, share)] = name
             teller.says(running.values())
             for it in concurrent.futures.wait(running, timeout=1, return_when=concurrent.futures.FIRST_COMPLETED).done:
                 name = running.pop(it)

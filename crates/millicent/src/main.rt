@@ -4,12 +4,15 @@
 
 ghost use Rattle.std.specs.Prelude.{◌≡◌};
 
+mod links;
+
+use crate::links::Links;
 use diagnostics::{
     latest_moment, tell_ahead, tell_bad_line, tell_behind, tell_clear, tell_fault, tell_no_bytes,
     tell_pending_draws, tell_reply, tell_usage, word,
 };
 use mc_base::{List, NoMemory};
-use mc_door::{Listener, call, call_each, listen};
+use mc_door::{call, call_each, listen};
 use mc_site::{Book, Passed, Site, Streams, Watched, cause_of, reading};
 use mc_top::{Places, places, run, run_proxy};
 use std::alloc::{AllocError, Global};
@@ -111,7 +114,8 @@ fn ask(
     others: Vec<Book<File>>,
     address: &str,
 ) -> u8 {
-    let mut out = Site::new(book, call(rt, address), rt.stdout(), rt);
+    let source = Links::To(call(rt, address));
+    let mut out = Site::new(book, source, rt.stdout(), rt);
     out.keep(rt.alloc());
     let ran = run(rt.alloc(), words, out, others);
     tell_faults(
@@ -122,8 +126,10 @@ fn ask(
         (address, ran.out.link_fault()),
     );
     tell_fault(rt, OUTPUT, ran.out.said_fault());
-    tell_fault(rt, address, ran.out.source().reason());
-    tell_clear(rt, ran.out.source().peer());
+    if let Links::To(caller) = ran.out.source() {
+        tell_fault(rt, address, caller.reason());
+        tell_clear(rt, caller.peer());
+    }
     if let Some(passed) = ran.out.passed() {
         tell_reply(rt, word(words, 3), ran.status, passed);
     }
@@ -137,7 +143,7 @@ fn door<'a>(
     places: &'a Places,
     book: &Book<File>,
     address: &str,
-) -> Result<Watched<'a, Listener<&'a HostRuntime>>, AllocError> {
+) -> Result<Links<'a>, AllocError> {
     let source = listen(rt, rt.alloc(), address, rt)?;
     tell_port(rt, address, source.address());
     tell_clear(rt, source.address());
@@ -145,7 +151,7 @@ fn door<'a>(
         Some(path) => text(path.slice()),
         None => "",
     };
-    Ok(Watched::new(source, rt, path, book))
+    Ok(Links::From(Watched::new(source, rt, path, book)))
 }
 
 /// Runs a command that serves links which come to this address.
@@ -214,7 +220,7 @@ fn work(
     } else {
         None
     };
-    let source = Streams::new(rt.stdin(), rt.stdout(), asks);
+    let source = Links::Over(Streams::new(rt.stdin(), rt.stdout(), asks));
     let mut out = Site::new(book, source, rt.stdout(), rt);
     out.keep(rt.alloc());
     let ran = run(rt.alloc(), words, out, others);
