@@ -17,7 +17,9 @@ import tempfile
 import build
 
 # What the files of a function's steps are named behind it.
-STEP = r"(\.(Answers|Carried|Code|Given|Goals|Instances|Invariants|Kinds|Layout|Lts|Met|Mir|Named|Proof|Reads|Statement|Symbol|TheLinks?|Tie|View|decls)\b.*)"
+KINDS = ("Answers Carried Code Given Goals Instances Invariants Kinds Layout Lts Met Mir Named Proof Reads Statement Symbol TheLink TheLinks "
+         "Tie View decls").split()
+STEP = rf"(\.({'|'.join(KINDS)})\b.*)"
 
 
 def checked(crates, name, folder):

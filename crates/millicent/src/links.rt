@@ -1,7 +1,5 @@
 //! Where the links of a command come from.
 
-ghost use Rattle.std.specs.Io.{ReadsAtMost, WritesAtMost};
-
 use mc_door::{Caller, Listener, Source};
 use mc_site::{Streams, Watched};
 use std::io;
