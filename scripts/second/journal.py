@@ -117,8 +117,8 @@ def found(stage):
 
 
 class Replay:
-    """A journal that is read: it is synced, and each byte is read once; but where the kind of a Switch stands what is before the first
-    one is read once more for its chain, and then what is behind its gate anew, malformed or not."""
+    """A journal that is read: it is synced, and each byte is read once; but where a Switch stands what is before the first one
+    is read once more for its chain, and then what is behind its gate anew."""
 
     def __init__(self, stage):
         # Of the bytes that are held the first `used` are read.
@@ -160,14 +160,14 @@ class Replay:
             raise BadEntry(place)
         self.drop(4)
         payload = self.need(length)
-        if payload[:1] == bytes((SWITCH,)) and self.chain.digest is None:
-            self.chain.digest = read_again(self.stage, gate)
-            self.held, self.used, self.at = b"", 0, gate
-            return self.next()
         try:
             entry = read_entry(payload)
         except Fault as fault:
             raise BadEntry(place + 4 + fault.place)
+        if entry.kind == SWITCH and self.chain.digest is None:
+            self.chain.digest = read_again(self.stage, gate)
+            self.held, self.used, self.at = b"", 0, gate
+            return self.next()
         self.drop(length)
         computed = self.chain.tail(payload)
         stood = self.need(len(computed))

@@ -4,17 +4,16 @@ use Rattle.std.specs.Prelude.{IsSome}
 use Rattle.mc_outside.specs.DiskView.{DiskView}
 use Rattle.mc_records.specs.Entry.{Entry, payload}
 use Rattle.mc_records.specs.Forms.{entry_of}
-use Rattle.mc_records.specs.Sizes.{tail_by}
 use Rattle.scrip_journal.specs.Layout.{body, next_of}
-use Rattle.scrip_journal.specs.States.{Reading, IsReading, EndedBy, known_chain}
+use Rattle.scrip_journal.specs.States.{Reading, IsReading, EndedBy}
 use Rattle.scrip_journal.specs.Answers.{Given, answer_of}
-use Rattle.scrip_journal.specs.Replays.{LookedOn, FaultsBy, CausedBy, IsPayload, IsFrame, EndsReading, TookEntry, ReadsOn, Advanced, ending_of}
+use Rattle.scrip_journal.specs.Replays.{LookedOn, FaultsBy, CausedBy, IsFrame, EndsReading, TookEntry, ReadsOn, Advanced, ending_of}
 use Rattle.scrip_journal.specs.declared.ending.Ending.{Ending}
 use Rattle.scrip_journal.specs.declared.replay.Found.{Found}
 use Rattle.scrip_journal.specs.declared.ending.Ending.TheVariants.{Closed, Spoiled, Unchained, Failed}
 use Rattle.scrip_journal.proofs.Known.{chain_known}
 use Rattle.scrip_journal.proofs.Looked.{same_rest, ends_reading}
-use Rattle.scrip_journal.proofs.Looking.{malformed_here}
+use Rattle.scrip_journal.proofs.Looking.{payload_of, malformed_here}
 use Rattle.scrip_journal.proofs.Reading.{ended_reading, next_reading, stands_here, spoiled_here, unchained_here}
 
 pub none_of : {A : Type 0} (o : Option A) → ((x : A) → o ≡ Some x → ⊥) → o ≡ None
@@ -38,10 +37,6 @@ relast view a h last r = record {
   ended_by = r.ended_by;
   synced = r.synced;
 }
-
--- the payload of a frame
-abbrev payload_of : {D : Type 0} (b : Reading D) (f : Found) → IsFrame f b.switched b.chain b.gate b.held → IsPayload f.bytes b.switched b.gate b.held
-payload_of b f g = record { bytes = g.bytes; length_is = g.length_is; short = g.short; rest = tail_by b.switched (known_chain f.chain) ++ g.rest; shape = g.shape; within = g.within }
 
 -- what has ended gives no place
 pub no_place : (e : Ending) (place : ℕ) → answer_of e ≡ Ok (Some place) → ⊥

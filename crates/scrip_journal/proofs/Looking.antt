@@ -301,6 +301,10 @@ framed_here f r p switches told =
       within = p.within;
     }
 
+-- the payload of a frame
+abbrev pub payload_of : {D : Type 0} (b : Reading D) (f : Found) → IsFrame f b.switched b.chain b.gate b.held → IsPayload f.bytes b.switched b.gate b.held
+payload_of b f g = record { bytes = g.bytes; length_is = g.length_is; short = g.short; rest = tail_by b.switched (known_chain f.chain) ++ g.rest; shape = g.shape; within = g.within }
+
 -- what was known of the length is known still
 pub length_stays : (old new : List ℕ) → BeginsWith old new → 5 ≤ length old → take 4 (drop 1 new) ≡ take 4 (drop 1 old)
 length_stays [] new b five = absurd (omega (arith, five))

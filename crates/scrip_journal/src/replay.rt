@@ -85,9 +85,9 @@ impl<D: Disk> Replay<D> {
     /// `BadRecord` comes where the bytes can't stand, with the least of these places that applies: the
     /// disk's end where a gate, a length, a payload or a chain should go on; a length of 131,066 or more, and one
     /// with which the entry, its chain and its closed gate would go past 2^40 bytes, each at its first byte; before
-    /// a chain that is cut or another, in a payload the place that [`read_record`] gives. `BadChain` comes where 32
-    /// whole bytes of a chain are another than that of the entries. `Disk` comes only where the disk failed. After
-    /// `None` or a fault the same answer comes again.
+    /// a chain that is cut or another, and before one that has yet to be found, in a payload the place that
+    /// [`read_record`] gives. `BadChain` comes where 32 whole bytes of a chain are another than that of the entries.
+    /// `Disk` comes only where the disk failed. After `None` or a fault the same answer comes again.
     pub fn next_record(&mut self) -> Result<Option<u64>, ReplayFault>
         ensures { Advanced D.disk D.disk_moved self.old result self.new }
     {
@@ -305,7 +305,7 @@ impl<D: Disk> Replay<D> {
     }
 
     /// Looks for an entry behind the next gate. Where it may be a Switch the chain of the entries before it is known then:
-    /// before the first Switch it is found now, and what is behind the gate is read anew.
+    /// before the first Switch it is found now, unless the payload is malformed, and what is behind the gate is read anew.
     fn look_known(&mut self) -> Result<Found, Ending>
         requires going { self.old.ended ≡ None }
         ensures moved { D.disk_moved self.old.disk self.new.disk }
@@ -322,6 +322,9 @@ impl<D: Disk> Replay<D> {
         };
         if !found.switches || self.chain.is_some() {
             return Ok(found);
+        }
+        if let Err(fault) = read_record(self.payload(found.bytes)) {
+            return Err(Ending::Spoiled(self.gate + 5 + fault.place as u64));
         }
         if self.find_chain().is_err() {
             return Err(Ending::Failed);
