@@ -142,6 +142,12 @@ first_below : (n : ℕ) (ns : List ℕ) (k : ℕ) → AreRising (n ∷ ns) → u
 first_below n [] k rising lt = lt
 first_below n (m ∷ ms) k rising lt = let rest = first_below m ms k rising.1 lt in omega (arith, rest, rising.0.0)
 
+-- and so are the others
+pub all_below : (ns : List ℕ) (k : ℕ) → AreRising ns → unwrap_or (last_or None ns) 0 < k → AllByRecursion (λ n. n < k) ns
+all_below [] k rising lt = tt
+all_below (n ∷ []) k rising lt = (lt, tt)
+all_below (n ∷ m ∷ ms) k rising lt = (first_below n (m ∷ ms) k rising lt, all_below (m ∷ ms) k rising.1 lt)
+
 rising_snoc : (ns : List ℕ) (k : ℕ) → AreRising ns → unwrap_or (last_or None ns) 0 < k → AreRising (ns ++ k ∷ [])
 rising_snoc [] k rising lt = (tt, tt)
 rising_snoc (n ∷ []) k rising lt = ((lt, tt), (tt, tt))

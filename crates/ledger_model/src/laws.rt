@@ -1,6 +1,6 @@
 //! Laws over the definitions, each on a function that does nothing.
 
-ghost use Rattle.std.specs.Prelude.{◌≡◌, ◌+◌, ◌<◌, ◌≤◌, ◌^◌, ℕ, [], ◌∷◌, ◌++◌, length, not, List, Some, true, option_map, slice_get};
+ghost use Rattle.std.specs.Prelude.{◌≡◌, ◌↔◌, ◌+◌, ◌<◌, ◌≤◌, ◌^◌, ℕ, [], ◌∷◌, ◌++◌, length, not, List, Some, true, option_map, slice_get};
 ghost use Rattle.mc_records.specs.declared.limits.Limits.{Limits as Bounds};
 ghost use Rattle.mc_records.specs.declared.limits.TheConstants.Limits.{MOST_JOURNAL};
 ghost use Rattle.mc_records.specs.declared.refusal.Refusal.{Refusal};
@@ -15,7 +15,7 @@ ghost use Rattle.ledger_model.specs.Stock.{upgrade_terms};
 ghost use Rattle.ledger_model.specs.Pieces.{accepted, own_out, minted};
 ghost use Rattle.ledger_model.specs.Sums.{takings, values, all_drawn};
 ghost use Rattle.ledger_model.specs.Stages.{is_repeat};
-ghost use Rattle.ledger_model.specs.Answer.{answer, draw_in, as_counted, Take, Again};
+ghost use Rattle.ledger_model.specs.Answer.{answer, answer_within, draw_in, as_counted, Take, Again};
 ghost use Rattle.ledger_model.specs.Lawful.{IsLawful, IsFirstUnlawful, MayFollow, AllFollow};
 ghost use Rattle.ledger_model.specs.Replies.{reply_after, reply_of, refusal_of, head_refusal};
 ghost use Rattle.ledger_model.specs.Laws.{AreDistinct, ArePaid, HaveNoGap, with_id};
@@ -60,6 +60,14 @@ pub fn taken_requests_repeat()
         → answer h t limits q ≡ Again n
         → option_map (is_repeat (keeping h) t (as_counted (draw_in h q.target) q)) (slice_get h n)
         ≡ Some true }
+{}
+
+/// What an answer takes does not depend on how long replies come again: a request that comes again brings a piece that is
+/// spent, or an order that is stale. So whoever only asks which entries may follow needs no replies.
+pub fn taking_needs_no_replies()
+    ensures { (bounds : Bounds) (seconds : ℕ) (h : History) (t : ℕ) (limits : Bounds) (q : Asked)
+        (e : Entry) → IsLawful bounds h
+        → (answer_within seconds h t limits q ≡ Take e) ↔ (answer h t limits q ≡ Take e) }
 {}
 
 /// The first reply of an entry does not depend on later entries: it is the reply after the entries
