@@ -42,7 +42,7 @@ impl<T: Trade> Reader<T> {
         ensures may { MayFollow Limits.FULL [] (entry first.now) }
         ensures holds { IfOk result (λ r. Reads T.trade r (entry first.now ∷ [])) }
     {
-        let bench = Bench::new(alloc, first, Limits::FULL, trade)?;
+        let bench = Bench::for_reading(alloc, first, Limits::FULL, trade)?;
         Ok(Reader {
             bench,
             sums: BookSums::new(alloc, first),

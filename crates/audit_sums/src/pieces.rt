@@ -6,7 +6,7 @@ ghost use Rattle.ledger_model.specs.Histories.{History};
 ghost use Rattle.ledger_model.specs.Houses.{terms_in};
 ghost use Rattle.audit_sums.specs.Learned.{ShowsPieces};
 
-use crate::readings::{acceptance, handed, run};
+use crate::readings::{acceptance, handed, paid, run};
 use crate::rows::{Acceptance, Run};
 use audit_model::Part;
 use mc_base::NoMemory;
@@ -42,8 +42,9 @@ impl Pieces {
         ensures { (h : History) → terms_in h 0 ≡ Some terms.now → ShowsPieces self.old h
             → OnOk result (ShowsPieces self.new (h ++ entry r.now ∷ [])) }
     {
-        put(&mut self.accepted, acceptance(r))?;
-        put(&mut self.own_out, handed(terms, r))?;
+        let paid = paid(r);
+        put(&mut self.accepted, acceptance(r, &paid))?;
+        put(&mut self.own_out, handed(terms, r, &paid))?;
         put(&mut self.minted, run(r))
     }
 }

@@ -7,7 +7,7 @@ ghost use Rattle.mc_records.specs.Entry.{Accept, Draw, Deed};
 ghost use Rattle.mc_records.specs.Views.{entry};
 ghost use Rattle.ledger_model.specs.Histories.{History};
 ghost use Rattle.ledger_model.specs.Houses.{terms_in};
-ghost use Rattle.ledger_model.specs.Pieces.{handed_piece};
+ghost use Rattle.ledger_model.specs.Pieces.{piece_of, accepted_piece, handed_piece};
 ghost use Rattle.ledger_model.specs.Sums as model;
 ghost use Rattle.ledger_model.specs.Sums.{amount_in, amount_out, fee_of, price_paid};
 ghost use Rattle.audit_model.specs.Parts.{part_of};
@@ -92,17 +92,28 @@ pub(crate) fn fee_taken(fee: u64, r: &Record<'_>) -> u64
 
 // ---- pieces
 
-/// What is kept of the piece that an entry accepts.
-pub(crate) fn acceptance(r: &Record<'_>) -> Option<Acceptance>
+/// The piece that an entry accepts, where its text is one.
+pub(crate) fn paid(r: &Record<'_>) -> Option<Part>
+    ensures { result ≡ option_map part_of (accepted_piece (entry r.now)) }
+{
+    match r {
+        Record::Accept { scrip, .. } => Part::read(scrip),
+        _ => None,
+    }
+}
+
+/// What is kept of the piece that an entry accepts, which was read.
+pub(crate) fn acceptance(r: &Record<'_>, paid: &Option<Part>) -> Option<Acceptance>
+    requires { paid.now ≡ option_map part_of (accepted_piece (entry r.now)) }
     ensures { result ≡ acceptance_of (entry r.now) }
 {
-    let Record::Accept { scrip, .. } = r else {
-        return None;
-    };
-    Some(Acceptance {
-        piece: Part::read(scrip),
-        sale: Sold::read(r).is_some(),
-    })
+    match r {
+        Record::Accept { .. } => Some(Acceptance {
+            piece: *paid,
+            sale: Sold::read(r).is_some(),
+        }),
+        _ => None,
+    }
 }
 
 /// The pieces that an entry mints.
@@ -124,18 +135,14 @@ pub(crate) fn run(r: &Record<'_>) -> Option<Run>
     }
 }
 
-/// The piece that an entry hands out in the house's own series, whose terms these are.
-pub(crate) fn handed(terms: &Terms, r: &Record<'_>) -> Option<Part>
+/// The piece that an entry hands out in the house's own series, whose terms these are. The piece that it accepts was read.
+pub(crate) fn handed(terms: &Terms, r: &Record<'_>, paid: &Option<Part>) -> Option<Part>
+    requires { paid.now ≡ option_map part_of (accepted_piece (entry r.now)) }
     ensures { (h : History) → terms_in h 0 ≡ Some terms.now
         → result ≡ option_map part_of (handed_piece h (entry r.now)) }
 {
     match r {
-        Record::Accept {
-            scrip,
-            price,
-            change,
-            ..
-        } => change_of(terms, scrip, *price, *change),
+        Record::Accept { price, change, .. } => change_of(terms, paid, *price, *change),
         Record::Draw { target, drawn, .. } => drawn_by(terms, target, *drawn),
         _ => None,
     }
@@ -149,13 +156,13 @@ pub(crate) fn end_of(terms: &Terms, id: Id) -> u64
     terms.series_end(epoch)
 }
 
-/// The change of a scrip text at a price.
-fn change_of(terms: &Terms, scrip: &[u8], price: u64, change: Option<Id>) -> Option<Part>
-    ensures { (h : History) (m : ℕ) (target : List ℕ) (sign : Option (List ℕ)) (deed : Deed)
-        → terms_in h 0 ≡ Some terms.now
-        → result ≡ option_map part_of (handed_piece h (Accept m scrip.now target sign price change deed)) }
+/// The change of a piece at a price.
+fn change_of(terms: &Terms, paid: &Option<Part>, price: u64, change: Option<Id>) -> Option<Part>
+    ensures { (h : History) (m : ℕ) (scrip target : List ℕ) (sign : Option (List ℕ)) (deed : Deed)
+        → terms_in h 0 ≡ Some terms.now → paid.now ≡ option_map part_of (piece_of scrip)
+        → result ≡ option_map part_of (handed_piece h (Accept m scrip target sign price change deed)) }
 {
-    match (change, Part::read(scrip)) {
+    match (change, *paid) {
         (Some(id), Some(paid)) => Some(Part {
             id,
             value: paid.value.saturating_sub(price),

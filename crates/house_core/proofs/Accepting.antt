@@ -1,6 +1,6 @@
 -- What comes of a request, from the answer to it.
 use Rattle.std.proofs.Common.{◌≡◌, ◌≤◌, ◌^◌, ℕ, false, List, [], ◌∷◌, ◌++◌, length, Option, Some, None, Ok, Err, refl, sym, ap, subst, ◌∙◌, arith}
-use Rattle.std.specs.Prelude.{option_map, IfOk, IfErr, IsOk, OnOk, Result}
+use Rattle.std.specs.Prelude.{option_map, position, IfOk, IfErr, IsOk, OnOk, Result}
 use Rattle.scrip_form.specs.Issuing.{Issuing}
 use Rattle.mc_records.specs.declared.limits.Limits.{Limits}
 use Rattle.mc_records.specs.Sizes.{tail_bytes}
@@ -11,7 +11,7 @@ use Rattle.kept_replies.specs.Kept.{found}
 use Rattle.ledger_model.specs.Histories.{History}
 use Rattle.ledger_model.specs.Answer as answers
 use Rattle.ledger_model.specs.Answer.{Answer, answer, answered}
-use Rattle.ledger_model.specs.Stages.{read_by}
+use Rattle.ledger_model.specs.Stages.{is_repeat, read_by}
 use Rattle.ledger_model.proofs.TableLaws.{read_ok}
 use Rattle.house_core.specs.BenchView.{BenchView}
 use Rattle.house_state.specs.declared.verdict.Authorization.{Authorization}
@@ -50,12 +50,11 @@ pub stands_as_before : {old new : HouseStateView} {h : History} → StateReprese
 stands_as_before {old = old} {new = new} {h = h} st is = record {
   name = st.name ∙ sym is.name;
   clear = st.clear ∙ sym is.clear;
-  keep = st.keep ∙ sym is.keep;
   terms = st.terms ∙ sym is.terms;
   own_terms = st.own_terms ∙ ap some (sym is.issuer);
   in_time = omega (arith, st.in_time, is.time);
   spent = λ id live. st.spent id (subst (λ (t : ℕ). has_ended h t id ≡ false) is.time live) ∙ sym (is.spent id);
-  again = λ t q later. st.again t q (omega (arith, later, is.time)) ∙ same_found t q;
+  again = λ t q later. ap (λ (k : ℕ). position (is_repeat k t q) h) is.keep ∙ st.again t q (omega (arith, later, is.time)) ∙ same_found t q;
   replies = rw is.replies st.replies;
   issued = λ s. st.issued s ∙ sym (is.issued s);
   most = is.most ∙ st.most ∙ ap (λ (l : Limits). l.series) (sym is.limits);

@@ -95,6 +95,10 @@ pub replies_committed : (old new : HouseStateView) (q : Asked) (a : Authorized) 
 replies_committed old new q (by.Scrip a) is = is.kept.replies
 replies_committed old new q (by.Draw d) is = is.kept.replies
 
+pub keep_committed : (old new : HouseStateView) (q : Asked) (a : Authorized) → IsCommitted old new q a → new.kept.keep ≡ old.kept.keep
+keep_committed old new q (by.Scrip a) is = is.kept.keep
+keep_committed old new q (by.Draw d) is = is.kept.keep
+
 pub kept_held : (b : HouseStateView) (q : Asked) (P : ℕ → Type 0) (a : Authorized) → OfDeed (OfGoods P) a → OfGoods P (kept_of b q a).entry.deed
 kept_held b q P (by.Scrip a) held = held
 kept_held b q P (by.Draw d) held = tt

@@ -9,6 +9,7 @@ use Rattle.kept_replies.specs.declared.deed.Deed.TheVariants as kept
 use Rattle.kept_replies.specs.Kept.{KeptReply}
 use Rattle.ledger_model.specs.Histories.{History}
 use Rattle.ledger_model.specs.Goods.{is_goods_of}
+use Rattle.ledger_model.specs.Houses.{keeping}
 use Rattle.house_core.specs.BenchView.{BenchView}
 use Rattle.house_state.specs.Trade.{Replaces, OfGoods, NamesInForce, TradeView}
 use Rattle.house_state.specs.declared.verdict.NotAuthorized.{NotAuthorized}
@@ -77,9 +78,10 @@ held_by old new keeps (kept.Credit balance) held = tt
 held_by old new keeps (kept.Draw piece cert secret) held = tt
 
 -- the kept replies are the same, and the trade holds what it held
-pub contents_as_before : {T : Type 0} (trade : T → TradeView) (b c : BenchView T) (h : History) → HasContents trade b h → c.state.kept.replies ≡ b.state.kept.replies
+pub contents_as_before : {T : Type 0} (trade : T → TradeView) (b c : BenchView T) (h : History) → HasContents trade b h → c.state.kept.keep ≡ b.state.kept.keep → c.state.kept.replies ≡ b.state.kept.replies
     → ((n : ℕ) → (trade b.trade).holds n → (trade c.trade).holds n) → HasContents trade c h
-contents_as_before trade b c h has same keeps = record {
+contents_as_before trade b c h has keep same keeps = record {
+  keep = has.keep ∙ sym keep;
   in_force = subst (All (IsInForceFor h)) (sym same) has.in_force;
   held = subst (All (λ r. OfGoods (trade c.trade).holds r.entry.deed)) (sym same)
       (All-weaker (λ r. OfGoods (trade b.trade).holds r.entry.deed) (λ r. OfGoods (trade c.trade).holds r.entry.deed) (λ r. held_by (trade b.trade).holds (trade c.trade).holds keeps r.entry.deed) b.state.kept.replies has.held);
@@ -87,12 +89,13 @@ contents_as_before trade b c h has same keeps = record {
 
 -- there is one reply more, of an entry that puts no goods
 pub contents_taken : {T : Type 0} (trade : T → TradeView) (b c : BenchView T) (h : History) (e : Entry) (r : KeptReply) → HasContents trade b h → ((target : List ℕ) → is_goods_of target e ≡ false)
-    → c.state.kept.replies ≡ b.state.kept.replies ++ r ∷ [] → ((n : ℕ) → (trade b.trade).holds n → (trade c.trade).holds n) → OfGoods (trade b.trade).holds r.entry.deed → NamesInForce h r.entry.deed
+    → keeping (h ++ e ∷ []) ≡ keeping h → c.state.kept.keep ≡ b.state.kept.keep → c.state.kept.replies ≡ b.state.kept.replies ++ r ∷ [] → ((n : ℕ) → (trade b.trade).holds n → (trade c.trade).holds n) → OfGoods (trade b.trade).holds r.entry.deed → NamesInForce h r.entry.deed
     → HasContents trade c (h ++ e ∷ [])
-contents_taken trade b c h e r has quiet more keeps held in_force =
+contents_taken trade b c h e r has quiet stays keep more keeps held in_force =
     let later = All-weaker (IsInForceFor h) (IsInForceFor (h ++ e ∷ [])) (λ x. still_in_force h e x.entry.number quiet x.entry.deed) b.state.kept.replies has.in_force in
     let still = All-weaker (λ x. OfGoods (trade b.trade).holds x.entry.deed) (λ x. OfGoods (trade c.trade).holds x.entry.deed) (λ x. held_by (trade b.trade).holds (trade c.trade).holds keeps x.entry.deed) b.state.kept.replies has.held in
     record {
+      keep = stays ∙ has.keep ∙ sym keep;
       in_force = subst (All (IsInForceFor (h ++ e ∷ []))) (sym more) (All-push (IsInForceFor (h ++ e ∷ [])) b.state.kept.replies r later (new_in_force h e r.entry.number quiet r.entry.deed in_force));
       held = subst (All (λ x. OfGoods (trade c.trade).holds x.entry.deed)) (sym more) (All-push (λ x. OfGoods (trade c.trade).holds x.entry.deed) b.state.kept.replies r still (held_by (trade b.trade).holds (trade c.trade).holds keeps r.entry.deed held));
     }
@@ -131,22 +134,24 @@ in_force_by h e number within (kept.Sale piece cert secret stock) later = tt
 in_force_by h e number within (kept.Credit balance) later = tt
 in_force_by h e number within (kept.Draw piece cert secret) later = tt
 
-pub contents_applied : {T : Type 0} (trade : T → TradeView) (b c : BenchView T) (h : History) (e : Entry) → HasContents trade b h → All (IsReply h) b.state.kept.replies → c.state.kept.replies ≡ b.state.kept.replies
+pub contents_applied : {T : Type 0} (trade : T → TradeView) (b c : BenchView T) (h : History) (e : Entry) → HasContents trade b h → All (IsReply h) b.state.kept.replies → keeping (h ++ e ∷ []) ≡ keeping h → c.state.kept.keep ≡ b.state.kept.keep → c.state.kept.replies ≡ b.state.kept.replies
     → ((n : ℕ) → (trade b.trade).holds n → (trade c.trade).holds n) → HasContents trade c (h ++ e ∷ [])
-contents_applied trade b c h e has replies same keeps =
-    let still = contents_as_before trade b c h has same keeps in
+contents_applied trade b c h e has replies stays keep same keeps =
+    let still = contents_as_before trade b c h has keep same keeps in
     record {
+      keep = stays ∙ still.keep;
       in_force = subst (All (IsInForceFor (h ++ e ∷ []))) (sym same)
           (λ k d lt. in_force_by h e (get_or b.state.kept.replies k d).entry.number (replies k d lt).within (get_or b.state.kept.replies k d).entry.deed (has.in_force k d lt));
       held = still.held;
     }
 
-pub contents_of_none : {T : Type 0} (trade : T → TradeView) (b : BenchView T) (h : History) → b.state.kept.replies ≡ [] → HasContents trade b h
-contents_of_none trade b h none = record {
+pub contents_of_none : {T : Type 0} (trade : T → TradeView) (b : BenchView T) (h : History) → keeping h ≡ b.state.kept.keep → b.state.kept.replies ≡ [] → HasContents trade b h
+contents_of_none trade b h keep none = record {
+  keep = keep;
   in_force = subst (All (IsInForceFor h)) (sym none) (All-nil (IsInForceFor h));
   held = subst (All (λ r. OfGoods (trade b.trade).holds r.entry.deed)) (sym none) (All-nil (λ r. OfGoods (trade b.trade).holds r.entry.deed));
 }
 
 -- and so is a house where room was made
 pub contents_roomed : {T : Type 0} (trade : T → TradeView) (b c : BenchView T) (h : History) → IsRoomed trade b c → HasContents trade b h → HasContents trade c h
-contents_roomed trade b c h is has = contents_as_before trade b c h has is.state.replies is.held
+contents_roomed trade b c h is has = contents_as_before trade b c h has is.state.keep is.state.replies is.held

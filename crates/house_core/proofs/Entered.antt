@@ -22,7 +22,7 @@ use Rattle.kept_replies.specs.Requests.{is_same_request}
 use Rattle.kept_replies.specs.Kept.{KeptReply, KeptView, is_in_time, found}
 use Rattle.spent_windows.specs.Windows.{WindowView, is_marked}
 use Rattle.ledger_model.specs.Histories.{History, time}
-use Rattle.ledger_model.specs.Houses.{site_name, keeping, terms_of, all_terms, upgrade_of, upgrades_of}
+use Rattle.ledger_model.specs.Houses.{site_name, terms_of, all_terms, upgrade_of, upgrades_of}
 use Rattle.ledger_model.specs.declared.upgraded.Upgraded.{Upgraded}
 use Rattle.ledger_model.specs.Pieces.{accepted_piece, accepted, handed_piece, own_out, minted_pieces, minted, in_series, own_count}
 use Rattle.ledger_model.specs.Sums.{price_paid, values}
@@ -227,7 +227,6 @@ stands_more {old = old} {new = new} {h = h} st e g says may is =
     record {
       name = same.name ∙ st.name ∙ sym is.name;
       clear = ap (λ (o : Option House). unwrap_or (option_map (λ x. x.clear) o) false) same.house ∙ st.clear ∙ sym is.clear;
-      keep = ap (λ (o : Option House). unwrap_or (option_map (λ x. x.keep) o) 0) same.house ∙ st.keep ∙ sym (keep_stays old.kept new.kept g.kept is.kept);
       terms = terms ∙ ap₂ (λ (xs ys : List Issuing). xs ++ ys) st.terms says.terms ∙ sym is.terms;
       own_terms = own_terms_stay h e old.own.terms st.own_terms ∙ ap some (sym is.issuer);
       in_time = omega (arith, time_snoc h e, st.in_time, is.time, says.moment);
@@ -236,11 +235,10 @@ stands_more {old = old} {new = new} {h = h} st e g says may is =
           ended_kept (all_terms h) (all_terms (e ∷ [])) old.time id (ap₂ (λ (ts : List Issuing) (t : ℕ). ended_by ts t id) (sym terms) (sym is.time) ∙ live) in
           ap (list_any (λ p. p.id == id)) accepts ∙ list_any-append (λ p. p.id == id) (accepted h) (cons_option g.paid [])
           ∙ ap (λ (b : Bool). b || list_any (λ p. p.id == id) (cons_option g.paid [])) (st.spent id before) ∙ marked_more old.spent new.spent g.paid id is.spent;
-      again = λ t q later.
-          ap (λ (o : Option House). position (is_repeat (unwrap_or (option_map (λ x. x.keep) o) 0) t q) (h ++ e ∷ [])) same.house
-          ∙ position_snoc (is_repeat (keeping h) t q) h e
-          ∙ ap₂ (λ (o : Option ℕ) (b : Bool). option_or o (cond b (Some (length h)) None)) (st.again t q (omega (arith, later, is.time))) (says.repeats (keeping h) t q)
-          ∙ ap₂ (λ (keep n : ℕ). option_or (number_found old.kept t q) (cond (is_repeat_of keep t q g.kept) (Some n) None)) st.keep st.counted
+      again = λ t q later. ap (λ (k : ℕ). position (is_repeat k t q) (h ++ e ∷ [])) (keep_stays old.kept new.kept g.kept is.kept)
+          ∙ position_snoc (is_repeat old.kept.keep t q) h e
+          ∙ ap₂ (λ (o : Option ℕ) (b : Bool). option_or o (cond b (Some (length h)) None)) (st.again t q (omega (arith, later, is.time))) (says.repeats old.kept.keep t q)
+          ∙ ap (λ (n : ℕ). option_or (number_found old.kept t q) (cond (is_repeat_of old.kept.keep t q g.kept) (Some n) None)) st.counted
           ∙ found_more old.kept new.kept g.kept old.count t q says.number is.kept;
       replies = replies_more old.kept new.kept g.kept (IsReply (h ++ e ∷ [])) says.reply is.kept (All-weaker (IsReply h) (IsReply (h ++ e ∷ [])) (λ r. reply_kept st e r) old.kept.replies st.replies);
       issued = λ s. own_count_snoc h e s

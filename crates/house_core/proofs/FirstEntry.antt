@@ -8,9 +8,9 @@ use Rattle.scrip_certs.specs.Digests.{certificate}
 use Rattle.scrip_form.specs.Issuing.{Issuing}
 use Rattle.scrip_form.specs.Scrip.{Scrip, scrip_body, scrip_text}
 use Rattle.mc_records.specs.declared.limits.Limits.{Limits}
-use Rattle.mc_records.specs.Entry.{Entry, Site}
+use Rattle.mc_records.specs.Entry.{House, Entry, Site}
 use Rattle.ledger_model.specs.Histories.{History}
-use Rattle.ledger_model.specs.Houses.{site_name, site_kind, house, terms_of, all_terms, terms_in, terms_by}
+use Rattle.ledger_model.specs.Houses.{site_name, site_kind, keeping, house, terms_of, all_terms, terms_in, terms_by}
 use Rattle.ledger_model.specs.Lawful.{IsLawful}
 use Rattle.ledger_model.specs.Replies.{own_text}
 
@@ -26,6 +26,9 @@ same_house limits (x ∷ xs) e lawful = record { name = refl; house = refl; kind
 
 pub kind_stays : (limits : Limits) (h : History) (e : Entry) → IsLawful limits h → site_kind (h ++ e ∷ []) ≡ site_kind h
 kind_stays limits h e lawful = (same_house limits h e lawful).kind
+
+pub keeping_stays : (limits : Limits) (h : History) (e : Entry) → IsLawful limits h → keeping (h ++ e ∷ []) ≡ keeping h
+keeping_stays limits h e lawful = ap (λ (o : Option House). unwrap_or (option_map (λ x. x.keep) o) 0) (same_house limits h e lawful).house
 
 -- the terms of the house itself
 pub own_terms_stay : (h : History) (e : Entry) (own : Issuing) → terms_in h 0 ≡ Some own → terms_in (h ++ e ∷ []) 0 ≡ Some own

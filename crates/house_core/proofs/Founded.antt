@@ -7,11 +7,12 @@ use Rattle.mc_records.specs.declared.limits.Limits.{Limits}
 use Rattle.mc_records.specs.Limits.{AreInRange}
 use Rattle.mc_records.specs.Entry.{House, HouseFits, Entry, Site}
 use Rattle.mc_records.proofs.SizeLaws.{length-tail, tail_size-by}
-use Rattle.ledger_model.specs.Houses.{site_kind, terms_by}
+use Rattle.ledger_model.specs.Houses.{keeping, site_kind, terms_by}
 use Rattle.ledger_model.specs.Lawful.{MayFollow}
 use Rattle.ledger_model.specs.Histories.{History}
 use Rattle.spent_windows.specs.Windows.{WindowView, is_marked}
 use Rattle.house_state.specs.Learning.{ByTrade, MayLearn, CommandFits}
+use Rattle.kept_replies.specs.Kept.{KeptView}
 use Rattle.house_state.specs.HouseState.{HouseStateView}
 use Rattle.house_state.specs.Founding.{IsStateOf, FoundsHouse}
 use Rattle.std.proofs.lemmas.List.Elements.{All-nil}
@@ -35,7 +36,6 @@ of_site b limits m kind name h is fits range may =
     record {
       name = sym is.name;
       clear = sym is.clear;
-      keep = sym is.keep;
       terms = sym is.terms;
       own_terms = own_found h.terms house.terms.issuer.1 ∙ ap some (sym is.issuer);
       in_time = omega (arith, is.time);
@@ -83,6 +83,41 @@ founds_by_trade passes kind e founds = absurd founds
 pub none_kept : (b : HouseStateView) (limits : Limits) (e : Entry) → IsStateOf b limits e → b.kept.replies ≡ []
 none_kept b limits (Site m kind name (Some h)) is = is.replies
 none_kept b limits e is = absurd is
+
+-- replies are kept for the keeping time
+pub keeps_founded : (b : HouseStateView) (limits : Limits) (e : Entry) → IsStateOf b limits e → keeping (e ∷ []) ≡ b.kept.keep
+keeps_founded b limits (Site m kind name (Some h)) is = sym is.keep
+keeps_founded b limits e is = absurd is
+
+-- what is kept for other seconds says as much, where there is no reply yet
+brief_site : {b : HouseStateView} (m kind : ℕ) (name : List ℕ) (h : House) (kept : KeptView) → StateRepresents b (Site m kind name (Some h) ∷ []) → kept.replies ≡ []
+    → StateRepresents (record b { kept = kept }) (Site m kind name (Some h) ∷ [])
+brief_site m kind name h kept st none = record {
+  name = st.name;
+  clear = st.clear;
+  terms = st.terms;
+  own_terms = st.own_terms;
+  in_time = st.in_time;
+  spent = st.spent;
+  again = λ t q later. rw none refl;
+  replies = rw none (All-nil (IsReply (Site m kind name (Some h) ∷ [])));
+  issued = st.issued;
+  most = st.most;
+  redeemed = st.redeemed;
+  worth = st.worth;
+  takings = st.takings;
+  counted = st.counted;
+  sized = st.sized;
+  switched = st.switched;
+  upgrades = st.upgrades;
+  limits = st.limits;
+  lawful = st.lawful;
+}
+
+pub stands_briefly : {b : HouseStateView} (e : Entry) (kept : KeptView) → FoundsHouse e → StateRepresents b (e ∷ []) → kept.replies ≡ [] → StateRepresents (record b { kept = kept }) (e ∷ [])
+stands_briefly (Site m kind name (Some h)) kept founds st none = brief_site m kind name h kept st none
+stands_briefly (Site m kind name None) kept founds st none = absurd founds
+stands_briefly e kept founds st none = absurd founds
 
 -- no identity is spent
 pub none_spent : (b : HouseStateView) (limits : Limits) (e : Entry) → IsStateOf b limits e → b.spent ≡ []

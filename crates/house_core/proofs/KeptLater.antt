@@ -1,6 +1,6 @@
 -- What is kept still stands at a later house time.
 use Rattle.std.proofs.Common.{◌≡◌, ℕ, ◌+◌, ◌<◌, ◌≤◌, Bool, true, false, cond, List, [], ◌∷◌, length, get_or, filter, find, All, IfSome, Option, Some, None, refl, sym, ap, subst, ◌∙◌, arith}
-use Rattle.std.specs.Prelude.{◌&&◌, option_map}
+use Rattle.std.specs.Prelude.{◌&&◌, option_map, position}
 use Rattle.std.proofs.lemmas.Bool.{and_parts, ltb-true, lt-ltb}
 use Rattle.std.proofs.lemmas.List.Elements.{All-filter}
 use Rattle.mc_records.specs.Requests.{Asked}
@@ -14,6 +14,7 @@ use Rattle.mc_records.specs.Entry.{Entry, AddTerms, Mint, Upgrade}
 use Rattle.spent_windows.specs.Windows.{WindowView, is_marked}
 use Rattle.ledger_model.specs.Histories.{History}
 use Rattle.ledger_model.specs.Houses.{all_terms}
+use Rattle.ledger_model.specs.Stages.{is_repeat}
 use Rattle.house_state.specs.HouseState.{HouseStateView, ended_by, MayMove, HasRoomFor, GoesOn}
 use Rattle.house_core.specs.BenchView.{BenchView}
 use Rattle.house_state.specs.Trade.{Replaces, LiesBehind, IsKeptFrom, OfGoods, TradeView}
@@ -77,13 +78,12 @@ pub stands_later : {b : HouseStateView} {h : History} → StateRepresents b h �
 stands_later {b = b} {h = h} st t spent kept le marked keep replies = record {
   name = st.name;
   clear = st.clear;
-  keep = st.keep ∙ sym keep;
   terms = st.terms;
   own_terms = st.own_terms;
   in_time = omega (arith, st.in_time, le);
   spent = λ id live. st.spent id (ended_later (all_terms h) b.time t id le live)
       ∙ sym (marked id (subst (λ (ts : List Issuing). ended_by ts t id ≡ false) st.terms live));
-  again = λ u q later. st.again u q (omega (arith, later, le)) ∙ ap (option_map (λ (e : KeptEntry). e.number)) (sym (found_later b.kept kept t u q keep replies later));
+  again = λ u q later. ap (λ (k : ℕ). position (is_repeat k u q) h) keep ∙ st.again u q (omega (arith, later, le)) ∙ ap (option_map (λ (e : KeptEntry). e.number)) (sym (found_later b.kept kept t u q keep replies later));
   replies = subst (All (IsReply h)) (sym replies) (All-filter (is_in_time b.kept.keep t) (IsReply h) b.kept.replies st.replies);
   issued = st.issued;
   most = st.most;
@@ -111,19 +111,19 @@ goes_later b t spent kept kind (Upgrade m vendor issuer from) goes =
 goes_later b t spent kept kind e goes = goes
 
 pub contents_later : {T : Type 0} (trade : T → TradeView) (b c : BenchView T) (h : History) (t : ℕ) (from : Option ℕ)
-    → HasContents trade b h → c.state.kept.replies ≡ filter (is_in_time b.state.kept.keep t) b.state.kept.replies
+    → HasContents trade b h → c.state.kept.keep ≡ b.state.kept.keep → c.state.kept.replies ≡ filter (is_in_time b.state.kept.keep t) b.state.kept.replies
     → IfSome from (λ n. All (λ r. n ≤ r.entry.number) c.state.kept.replies) → (from ≡ None → c.state.kept.replies ≡ [])
     → ((n : ℕ) → IsKeptFrom h from n → (trade b.trade).holds n → (trade c.trade).holds n) → HasContents trade c h
-contents_later {T = T} trade b c h t from has replies least none keeps =
+contents_later {T = T} trade b c h t from has keep replies least none keeps =
     let of_rest : (P : KeptReply → Type 0) → All P b.state.kept.replies → All P c.state.kept.replies =
     λ P all. subst (All P) (sym replies) (All-filter (is_in_time b.state.kept.keep t) P b.state.kept.replies all) in
     let in_force = of_rest (IsInForceFor h) has.in_force in
     let held = of_rest (λ r. OfGoods (trade b.trade).holds r.entry.deed) has.held in
-    record { in_force = in_force; held = all_held (trade b.trade).holds (trade c.trade).holds h from c.state.kept.replies keeps least none in_force held }
+    record { keep = has.keep ∙ sym keep; in_force = in_force; held = all_held (trade b.trade).holds (trade c.trade).holds h from c.state.kept.replies keeps least none in_force held }
 
 -- the same, where the trade forgets nothing
 pub contents_raised : {T : Type 0} (trade : T → TradeView) (b c : BenchView T) (h : History) (t : ℕ)
-    → HasContents trade b h → c.state.kept.replies ≡ filter (is_in_time b.state.kept.keep t) b.state.kept.replies
+    → HasContents trade b h → c.state.kept.keep ≡ b.state.kept.keep → c.state.kept.replies ≡ filter (is_in_time b.state.kept.keep t) b.state.kept.replies
     → ((n : ℕ) → (trade b.trade).holds n → (trade c.trade).holds n) → HasContents trade c h
-contents_raised trade b c h t has replies keeps =
-    contents_later trade b c h t (Some 0) has replies (λ k d lt. omega arith) (λ some. absurd (cc)) (λ n kept held. keeps n held)
+contents_raised trade b c h t has keep replies keeps =
+    contents_later trade b c h t (Some 0) has keep replies (λ k d lt. omega arith) (λ some. absurd (cc)) (λ n kept held. keeps n held)

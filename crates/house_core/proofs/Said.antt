@@ -12,7 +12,7 @@ use Rattle.house_core.specs.declared.tally.Tally.{Tally}
 use Rattle.house_core.specs.declared.fault.BenchFault.{BenchFault}
 use Rattle.house_core.specs.declared.fault.BenchFault.TheVariants as faults
 use Rattle.house_core.specs.Session.{State, raised, Says}
-use Rattle.house_core.specs.Bench.{Represents, HasContents, Reaches, Refines, Accepts, KeepsContents, house_time, limits_of, state_of}
+use Rattle.house_core.specs.Bench.{IsHouse, Represents, HasContents, Reaches, Refines, Accepts, KeepsContents, house_time, limits_of, state_of}
 use Rattle.house_state.specs.Trade.{TradeView}
 
 -- want of memory is a refusal too
@@ -53,14 +53,14 @@ pub says : {T : Type 0} (trade : T → TradeView) (old mid new : BenchView T) (r
     → house_time mid ≡ max (house_time old) reading → limits_of mid ≡ limits_of old → house_time new ≡ house_time mid
     → ((h : History) → Represents trade old h → Represents trade mid h)
     → ((h : History) → Represents trade old h → HasContents trade old h → HasContents trade mid h)
-    → ((h : History) → Represents trade mid h → Accepts trade new h (answer h (house_time mid) (limits_of mid) q) r)
+    → ((h : History) → IsHouse trade mid h → Accepts trade new h (answer h (house_time mid) (limits_of mid) q) r)
     → ((h : History) → Represents trade mid h → HasContents trade mid h → KeepsContents trade new h (answer h (house_time mid) (limits_of mid) q) r)
     → Refines trade (λ s t. Says (answer (raised s reading).history (raised s reading).time (limits_of old) q) (said_of r) (raised s reading) t) old new
 says trade old mid new reading q r time limits still same contents accepts keeps h house =
     let s : State = raised (state_of h old) reading in
     let st = same h house.represents in
     let has = contents h house.represents house.contents in
-    let accepted : Accepts trade new h (answer h s.time (limits_of old) q) r = rw (time, limits) at (accepts h st) in
+    let accepted : Accepts trade new h (answer h s.time (limits_of old) q) r = rw (time, limits) at (accepts h (record { represents = st; contents = has })) in
     let kept : KeepsContents trade new h (answer h s.time (limits_of old) q) r = rw (time, limits) at (keeps h st has) in
     came trade s new (answer h s.time (limits_of old) q) r (still ∙ time) accepted kept
 
@@ -70,7 +70,7 @@ counted_beside trade P b tally came = record {
   history = came.history;
   house = record {
     represents = record { state = came.house.represents.state; learned = came.house.represents.learned; of_kind = came.house.represents.of_kind };
-    contents = record { in_force = came.house.contents.in_force; held = came.house.contents.held };
+    contents = record { keep = came.house.contents.keep; in_force = came.house.contents.in_force; held = came.house.contents.held };
   };
   related = came.related;
 }

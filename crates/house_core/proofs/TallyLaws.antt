@@ -1,5 +1,5 @@
 -- A tally that is counted on.
-use Rattle.std.proofs.Common.{◌≡◌, ℕ, ◌+◌, ◌^◌, ◌<◌, Bool, true, false, cond, List, [], ◌∷◌, ◌++◌, Some, None, Option, Result, Ok, refl, sym, ap, ◌∙◌, arith}
+use Rattle.std.proofs.Common.{◌≡◌, ℕ, ◌+◌, ◌^◌, ◌<◌, Bool, true, false, cond, List, [], ◌∷◌, ◌++◌, Some, None, Option, Result, Ok, Err, refl, sym, ap, ◌∙◌, arith}
 use Rattle.std.specs.Prelude.{count_by, sum_by}
 use Rattle.std.proofs.lemmas.List.Sums.{sum_by-append}
 use Rattle.mc_records.specs.declared.refusal.Refusal.{Refusal}
@@ -18,8 +18,11 @@ use Rattle.house_core.specs.declared.tally.Tally.{Tally}
 use Rattle.house_state.specs.declared.verdict.Authorization.{Authorization}
 use Rattle.house_state.specs.Views.{entry_deed}
 use Rattle.house_state.specs.HouseState.{change_worth}
-use Rattle.house_state.specs.Verdicts.{accept_entry}
-use Rattle.house_core.specs.Tallies.{Told, Taken, Repeated, RefusedBy, AreCounts, change_given, counted, is_taken, is_repeated, is_refusal, is_other, price_told, change_told, tallied}
+use Rattle.ledger_model.specs.Answer.{answered}
+use Rattle.house_state.specs.declared.verdict.NotAuthorized.{NotAuthorized}
+use Rattle.house_state.specs.declared.verdict.NotAuthorized.TheVariants as stops
+use Rattle.house_state.specs.Verdicts.{accept_entry, stop_of}
+use Rattle.house_core.specs.Tallies.{Told, Taken, Repeated, RefusedBy, AreCounts, change_given, counted, is_taken, is_repeated, is_refusal, is_other, price_told, change_told, tallied, told, told_stop}
 
 counted_none : (n : ℕ) → n < 2 ^ 64 → n ≡ counted n 0
 counted_none n lt = omega (arith, lt)
@@ -152,3 +155,8 @@ change_is t target a q read = by_change a.change
     by_change : (o : Option ℕ) → change_given (Accept t a.scrip.now.text target a.sign a.price o (entry_deed a.deed)) ≡ change_worth a.price a.scrip.now.piece.value o
     by_change None = refl
     by_change (Some id) = rw piece refl
+
+-- what is told to a request that makes no entry
+pub told_stopped : (s : NotAuthorized) (entered : Bool) → told (answered (Err (stop_of s))) entered ≡ told_stop s
+told_stopped (stops.Refused f) entered = refl
+told_stopped (stops.Again n) entered = refl

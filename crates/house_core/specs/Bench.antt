@@ -6,7 +6,7 @@ use Rattle.mc_records.specs.declared.limits.Limits.{Limits}
 use Rattle.spent_windows.specs.Windows.{WindowView}
 use Rattle.kept_replies.specs.Kept.{KeptReply, has_number}
 use Rattle.ledger_model.specs.Histories.{History}
-use Rattle.ledger_model.specs.Houses.{site_kind}
+use Rattle.ledger_model.specs.Houses.{site_kind, keeping}
 use Rattle.ledger_model.specs.Lines.{Refuse}
 use Rattle.ledger_model.specs.Answer.{fitted, Answer, Refused, Again, Take}
 use Rattle.house_core.specs.BenchView.{BenchView}
@@ -53,8 +53,9 @@ pub record Represents {T : Type 0} (trade : T → TradeView) (b : BenchView T) (
   pub learned : (trade b.trade).represents h
   pub of_kind : site_kind h ≡ Some (trade b.trade).site
 
--- The trade has what the kept replies bring, and no earlier entry replaces it.
+-- It keeps replies for the keeping time of the history, the trade has what they bring, and no earlier entry replaces it.
 pub record HasContents {T : Type 0} (trade : T → TradeView) (b : BenchView T) (h : History) : Type 0 where
+  pub keep : keeping h ≡ b.state.kept.keep
   pub in_force : All (IsInForceFor h) b.state.kept.replies
   pub held : All (λ r. OfGoods (trade b.trade).holds r.entry.deed) b.state.kept.replies
 

@@ -13,7 +13,7 @@ ghost use Rattle.mc_records.specs.Requests.{asked_of};
 ghost use Rattle.mc_records.specs.Views.{deed_of, entry};
 ghost use Rattle.ledger_model.specs.Histories.{History, time};
 ghost use Rattle.ledger_model.specs.Answer as model;
-ghost use Rattle.house_core.specs.Bench.{Represents, HasContents, IsRoomed, KeepsReply, Takes, Accepts, KeepsContents, FaultIsOfSite, Enters, Follows, stopped_with, house_time, limits_of, windows_of, tally_of, IsTallied};
+ghost use Rattle.house_core.specs.Bench.{IsHouse, Represents, HasContents, IsRoomed, KeepsReply, Takes, Accepts, KeepsContents, FaultIsOfSite, Enters, Follows, stopped_with, house_time, limits_of, windows_of, tally_of, IsTallied};
 ghost use Rattle.house_core.specs.Refusing.{FaultIsAmong};
 ghost use Rattle.house_core.specs.Tallies.{IsWithin, no_tally, tallied, told};
 ghost use Rattle.house_state.specs.HouseState.{size_with, HasRoomFor, GoesOn};
@@ -94,6 +94,28 @@ impl<T: Trade> Bench<T> {
         }
     }
 
+    /// The same house, but that replies come again within one second alone: for whoever only asks which entries may follow, to
+    /// whom no reply is needed ([`ledger_model::taking_needs_no_replies`]). It has memory for those of one second.
+    pub fn for_reading(
+        alloc: Global,
+        site: &Record<'_>,
+        limits: Limits,
+        trade: T,
+    ) -> Result<Bench<T>, NoMemory>
+        requires limits { AreInRange limits }
+        requires site { FoundsHouse (entry site.now) }
+        requires first { MayFollow limits [] (entry site.now) }
+        requires kind { site_kind (entry site.now ∷ []) ≡ Some (T.trade trade).site }
+        requires trade { (T.trade trade).represents [] }
+        ensures holds { IfOk result (λ b. Represents T.trade b (entry site.now ∷ [])) }
+        ensures time { IfOk result (λ b. house_time b ≡ moment_of (entry site.now)) }
+        ensures limits { IfOk result (λ b. limits_of b ≡ limits) }
+    {
+        let mut bench = Bench::new(alloc, site, limits, trade)?;
+        bench.state.keep_briefly();
+        Ok(bench)
+    }
+
     /// Its trade.
     pub fn trade(&self) -> &T
         ensures { (h : History) → Represents T.trade self.now h
@@ -136,7 +158,7 @@ impl<T: Trade> Bench<T> {
     /// takes no memory.
     pub fn judge(&self, q: &Request<'_>) -> Verdict
         ensures kept { (n : ℕ) → result ≡ verdicts.Again n → KeepsReply self.now n }
-        ensures exact { (h : History) → Represents T.trade self.now h
+        ensures exact { (h : History) → IsHouse T.trade self.now h
             → judged_of result ≡ judged (model.answer h (house_time self.now) (limits_of self.now) (asked_of q.now)) }
     {
         let q = Presented::of(*q);
@@ -151,7 +173,7 @@ impl<T: Trade> Bench<T> {
     /// It takes no memory.
     pub fn repeated(&self, q: &Request<'_>) -> Option<u64>
         ensures kept { IfSome result (KeepsReply self.now) }
-        ensures exact { (h : History) → Represents T.trade self.now h
+        ensures exact { (h : History) → IsHouse T.trade self.now h
             → result ≡ repeat_of (model.answer h (house_time self.now) (limits_of self.now) (asked_of q.now)) }
     {
         match self.judge(q) {
@@ -194,7 +216,7 @@ impl<T: Trade> Bench<T> {
         ensures tally { tally_of self.new ≡ tally_of self.old }
         ensures within { IsTallied self.old → IsTallied self.new }
         ensures used { AreUsed (windows_of self.old) → AreUsed (windows_of self.new) }
-        ensures exact { (h : History) → Represents T.trade self.old h
+        ensures exact { (h : History) → IsHouse T.trade self.old h
             → Accepts T.trade self.new h (model.answer h (house_time self.old) (limits_of self.old) (asked_of q.now)) result }
         ensures contents { (h : History) → Represents T.trade self.old h
             → HasContents T.trade self.old h
@@ -214,7 +236,7 @@ impl<T: Trade> Bench<T> {
     ) -> Result<KeptNumber, BenchFault>
         ensures within { IsWithin self.old.state.count tally.old
             → IsWithin self.new.state.count tally.new }
-        ensures counted { (h : History) → Represents T.trade self.old h
+        ensures counted { (h : History) → IsHouse T.trade self.old h
             → IsWithin self.old.state.count tally.old
             → tally.new ≡ tallied tally.old (told (model.answer h (house_time self.old) (limits_of self.old) q.now) (is_ok result) ∷ []) }
         ensures tally { tally_of self.new ≡ tally_of self.old }
@@ -224,7 +246,7 @@ impl<T: Trade> Bench<T> {
         ensures time { house_time self.new ≡ house_time self.old }
         ensures limits { limits_of self.new ≡ limits_of self.old }
         ensures used { AreUsed (windows_of self.old) → AreUsed (windows_of self.new) }
-        ensures exact { (h : History) → Represents T.trade self.old h
+        ensures exact { (h : History) → IsHouse T.trade self.old h
             → Accepts T.trade self.new h (model.answer h (house_time self.old) (limits_of self.old) q.now) result }
         ensures contents { (h : History) → Represents T.trade self.old h
             → HasContents T.trade self.old h

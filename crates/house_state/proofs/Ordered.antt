@@ -7,8 +7,8 @@ use Rattle.mc_records.specs.Requests.{Asked}
 use Rattle.ledger_model.specs.Histories.{History}
 use Rattle.ledger_model.specs.Lines.{Stop}
 use Rattle.ledger_model.specs.Orders.{Order}
-use Rattle.ledger_model.proofs.TableLaws.{answer_by_draw}
-use Rattle.ledger_model.specs.Answer.{draw_in, draw_lines, answered, answer}
+use Rattle.ledger_model.proofs.WithinLaws.{within_by_draw}
+use Rattle.ledger_model.specs.Answer.{draw_in, draw_lines_within, answered, answer_within}
 use Rattle.house_state.specs.declared.offer.DrawAsk.{DrawAsk}
 use Rattle.house_state.specs.declared.verdict.DrawAuthorization.{DrawAuthorization}
 use Rattle.house_state.specs.Trade.{asked_of_account, draw_asked}
@@ -46,8 +46,8 @@ ordered h target d ask is key amount =
     }
 
 -- what the column of draws gives is the answer
-pub draws_answer : (h : History) (t : ℕ) (limits : Limits) (q : Asked) (ask : DrawAsk) (r : Result Entry Stop) → Some ask ≡ draw_asked h q.target
-    → ((o : Order) → ask ≡ asked_of_account h o → r ≡ draw_lines h t limits q o) → answered r ≡ answer h t limits q
-draws_answer h t limits q ask r is lines =
+pub draws_answer : (keep : ℕ) (h : History) (t : ℕ) (limits : Limits) (q : Asked) (ask : DrawAsk) (r : Result Entry Stop) → Some ask ≡ draw_asked h q.target
+    → ((o : Order) → ask ≡ asked_of_account h o → r ≡ draw_lines_within keep h t limits q o) → answered r ≡ answer_within keep h t limits q
+draws_answer keep h t limits q ask r is lines =
     let asked = some_asked h q.target ask is in
-    ap answered (lines asked.order asked.is) ∙ sym (answer_by_draw h t limits q asked.order asked.asks)
+    ap answered (lines asked.order asked.is) ∙ sym (within_by_draw keep h t limits q asked.order asked.asks)

@@ -20,7 +20,7 @@ use Rattle.ledger_model.specs.Houses.{site_name, all_terms, terms_by, terms_in, 
 use Rattle.ledger_model.specs.Pieces.{is_spent}
 use Rattle.ledger_model.specs.Lines.{Stop, Refuse, Repeat, ◌>>=◌, given, refused_if, again_if}
 use Rattle.ledger_model.specs.Stages.{read_by, is_right, genuine_by, spendable_by, Offer, next_by, needed, drawable_by, payable_by, fitted_by}
-use Rattle.ledger_model.specs.Answer.{repeated, after_read, after_repeat, genuine, spendable, offer, next_own, fitted, taken, lines, without_scrip, drawn_before, known_in, drawn, draw_lines}
+use Rattle.ledger_model.specs.Answer.{repeated_within, after_read, after_repeat, genuine, spendable, offer, next_own, fitted, taken, lines_within, without_scrip, drawn_within, known_in, drawn, draw_lines_within}
 use Rattle.ledger_model.specs.Orders.{Order}
 use Rattle.ledger_model.specs.Accounts.{key_in}
 use Rattle.ledger_model.proofs.TableLaws.{line_ok, refused_ok, given_ok, read_ok}
@@ -172,41 +172,41 @@ scrip_asked q c read =
 abbrev pub kept_number : HouseStateView → Asked → Option ℕ
 kept_number b q = option_map (λ e. e.number) (found b.kept b.time q)
 
-again_is : {b : HouseStateView} {h : History} → StateRepresents b h → (q : Asked) (c : Certified) → Ok c ≡ read_by q.scrip → repeated h b.time c q ≡ kept_number b q
+again_is : {b : HouseStateView} {h : History} → StateRepresents b h → (q : Asked) (c : Certified) → Ok c ≡ read_by q.scrip → repeated_within b.kept.keep h b.time c q ≡ kept_number b q
 again_is {b = b} st q c read = st.again b.time (scrip_request c.text q.target q.sign) (omega arith) ∙ ap (kept_number b) (sym (scrip_asked q c read))
 
 -- there is no scrip text that can be read
-pub unread : (h : History) (t : ℕ) (limits : Limits) (q : Asked) (s : Stop) → Err s ≡ read_by q.scrip → Err s ≡ lines h t limits q
-unread h t limits q s none = ap (λ (r : Result Certified Stop). r >>= λ c. after_read h t limits q c) none
+pub unread : (keep : ℕ) (h : History) (t : ℕ) (limits : Limits) (q : Asked) (s : Stop) → Err s ≡ read_by q.scrip → Err s ≡ lines_within keep h t limits q
+unread keep h t limits q s none = ap (λ (r : Result Certified Stop). r >>= λ c. after_read keep h t limits q c) none
 
 -- the same request was accepted within the keeping time
 pub comes_again : {b : HouseStateView} {h : History} → StateRepresents b h → (limits : Limits) (q : Asked) (c : Certified) (n : ℕ) → Ok c ≡ read_by q.scrip → Some n ≡ kept_number b q
-    → Err (Repeat n) ≡ lines h b.time limits q
+    → Err (Repeat n) ≡ lines_within b.kept.keep h b.time limits q
 comes_again {b = b} {h = h} st limits q c n read is =
     ap (λ (o : Option ℕ). again_if o >>= λ _. after_repeat h b.time limits q c) (is ∙ sym (again_is st q c read))
-    ∙ ap (λ (r : Result Certified Stop). r >>= λ c. after_read h b.time limits q c) read
+    ∙ ap (λ (r : Result Certified Stop). r >>= λ c. after_read b.kept.keep h b.time limits q c) read
 
 -- it was not
 pub is_new : {b : HouseStateView} {h : History} → StateRepresents b h → (limits : Limits) (q : Asked) (c : Certified) (r : Result Entry Stop) → Ok c ≡ read_by q.scrip → None ≡ kept_number b q
-    → r ≡ after_repeat h b.time limits q c → r ≡ lines h b.time limits q
+    → r ≡ after_repeat h b.time limits q c → r ≡ lines_within b.kept.keep h b.time limits q
 is_new {b = b} {h = h} st limits q c r read none e =
     e
     ∙ ap (λ (o : Option ℕ). again_if o >>= λ _. after_repeat h b.time limits q c) (none ∙ sym (again_is st q c read))
-    ∙ ap (λ (r : Result Certified Stop). r >>= λ c. after_read h b.time limits q c) read
+    ∙ ap (λ (r : Result Certified Stop). r >>= λ c. after_read b.kept.keep h b.time limits q c) read
 
 -- ---- the table of draws
 
-again_drawn : {b : HouseStateView} {h : History} → StateRepresents b h → (q : Asked) → drawn_before h b.time q ≡ kept_number b (without_scrip q)
+again_drawn : {b : HouseStateView} {h : History} → StateRepresents b h → (q : Asked) → drawn_within b.kept.keep h b.time q ≡ kept_number b (without_scrip q)
 again_drawn {b = b} st q = st.again b.time (without_scrip q) (omega arith)
 
 -- the same draw was made within the keeping time
 pub draw_comes_again : {b : HouseStateView} {h : History} → StateRepresents b h → (limits : Limits) (q : Asked) (o : Order) (n : ℕ) → Some n ≡ kept_number b (without_scrip q)
-    → Err (Repeat n) ≡ draw_lines h b.time limits q o
+    → Err (Repeat n) ≡ draw_lines_within b.kept.keep h b.time limits q o
 draw_comes_again st limits q o n is = rw (again_drawn st q, ← is) refl
 
 -- there is no such account
 pub draws_on_none : {b : HouseStateView} {h : History} → StateRepresents b h → (limits : Limits) (q : Asked) (o : Order) → None ≡ kept_number b (without_scrip q) → None ≡ key_in h o.account
-    → Err (Refuse NoAccount) ≡ draw_lines h b.time limits q o
+    → Err (Refuse NoAccount) ≡ draw_lines_within b.kept.keep h b.time limits q o
 draws_on_none st limits q o new none = rw (again_drawn st q, ← new, ← none) refl
 
 -- what is asked of an account, in the words of the ledger
@@ -215,12 +215,12 @@ payable_is h o ask is = ap (λ (a : DrawAsk). payable_by (order_in a) (known_by 
 
 -- it is not signed under the key
 pub not_drawable : {b : HouseStateView} {h : History} → StateRepresents b h → (limits : Limits) (q : Asked) (o : Order) (key : List ℕ) (s : Stop) → None ≡ kept_number b (without_scrip q) → Some key ≡ key_in h o.account
-    → Err s ≡ drawable_by key q.target q.sign → Err s ≡ draw_lines h b.time limits q o
+    → Err s ≡ drawable_by key q.target q.sign → Err s ≡ draw_lines_within b.kept.keep h b.time limits q o
 not_drawable st limits q o key s new known refused = rw (again_drawn st q, ← new, ← known, ← refused) refl
 
 -- what is left of the table for a draw that is signed and was not made before
 pub draw_goes_on : {b : HouseStateView} {h : History} → StateRepresents b h → (limits : Limits) (q : Asked) (o : Order) (key sign : List ℕ) (r : Result Entry Stop) → None ≡ kept_number b (without_scrip q) → Some key ≡ key_in h o.account
-    → Ok sign ≡ drawable_by key q.target q.sign → r ≡ (payable_by o (known_in h o.account) >>= λ _. drawn h b.time limits q sign) → r ≡ draw_lines h b.time limits q o
+    → Ok sign ≡ drawable_by key q.target q.sign → r ≡ (payable_by o (known_in h o.account) >>= λ _. drawn h b.time limits q sign) → r ≡ draw_lines_within b.kept.keep h b.time limits q o
 draw_goes_on st limits q o key sign r new known may is = rw (again_drawn st q, ← new, ← known, ← may) is
 
 -- the series is full

@@ -9,7 +9,7 @@ use Rattle.mc_records.specs.Sizes.{size}
 use Rattle.kept_replies.specs.Kept.{KeptReply, found}
 use Rattle.change_issue.specs.Registers.{count_in, issued_in, redeemed_in}
 use Rattle.ledger_model.specs.Histories.{History, time}
-use Rattle.ledger_model.specs.Houses.{site_name, keeping, is_clear, all_terms, terms_in, upgrades_of}
+use Rattle.ledger_model.specs.Houses.{site_name, is_clear, all_terms, terms_in, upgrades_of}
 use Rattle.ledger_model.specs.Pieces.{accepted, is_spent, own_out, own_count}
 use Rattle.ledger_model.specs.Sums.{values, takings}
 use Rattle.ledger_model.specs.Stages.{is_repeat}
@@ -56,7 +56,6 @@ pub record StateRepresents (b : HouseStateView) (h : History) : Type 0 where
   -- what the site was founded with
   pub name : site_name h ≡ b.name
   pub clear : is_clear h ≡ b.clear
-  pub keep : keeping h ≡ b.kept.keep
   -- the terms of the issuers, and those of the house itself
   pub terms : all_terms h ≡ b.terms
   pub own_terms : terms_in h 0 ≡ Some b.own.terms
@@ -64,8 +63,8 @@ pub record StateRepresents (b : HouseStateView) (h : History) : Type 0 where
   pub in_time : time h ≤ b.time
   -- of the identities whose series has not ended, those that were accepted
   pub spent : (id : ℕ) → has_ended h b.time id ≡ false → is_spent h id ≡ is_marked b.spent id
-  -- the entry that a request repeats, at the house time and later
-  pub again : (t : ℕ) (q : Asked) → b.time ≤ t → position (is_repeat (keeping h) t q) h ≡ option_map (λ e. e.number) (found b.kept t q)
+  -- the entry that a request repeats within the seconds for which replies are kept, at the house time and later
+  pub again : (t : ℕ) (q : Asked) → b.time ≤ t → position (is_repeat b.kept.keep t q) h ≡ option_map (λ e. e.number) (found b.kept t q)
   -- what the replies are made of
   pub replies : All (IsReply h) b.kept.replies
   -- how many pieces of each series were handed out, by which the next one is numbered

@@ -145,7 +145,7 @@ fn evaluate_scrip<'q, 'a, T: Trade>(
     ensures again { IfErr result (RepeatsKept state.now) }
     ensures exact { (h : History) → StateRepresents state.now h → (T.trade trade.now).represents h
         → site_kind h ≡ Some (T.trade trade.now).site
-        → evaluated (accept_entry state.now.time q.now.target) result ≡ model.lines h state.now.time limits q.now }
+        → evaluated (accept_entry state.now.time q.now.target) result ≡ model.lines_within state.now.kept.keep h state.now.time limits q.now }
 {
     let scrip = match q.scrip() {
         Ok(scrip) => scrip,
@@ -182,7 +182,7 @@ fn evaluate_draw(
     ensures again { IfErr result (RepeatsKept state.now) }
     ensures exact { (h : History) (o : Order) → StateRepresents state.now h
         → ask.now ≡ asked_of_account h o
-        → evaluated (draw_entry state.now.time q.now.target.now) result ≡ model.draw_lines h state.now.time limits (asked_of q.now) o }
+        → evaluated (draw_entry state.now.time q.now.target.now) result ≡ model.draw_lines_within state.now.kept.keep h state.now.time limits (asked_of q.now) o }
 {
     match state.repeated(&without_scrip(q)) {
         Some(number) => return Err(NotAuthorized::Again(number)),
@@ -219,7 +219,7 @@ fn evaluate_draw(
 }
 
 /// What is given for a request under some limits, or why nothing is: the number of an entry where it
-/// comes again. Here alone a house tells whether it does.
+/// comes again. Here alone a house tells whether it does, within the seconds for which it keeps replies.
 pub fn evaluate<'q, 'a, T: Trade>(
     state: &HouseState,
     limits: Limits,
@@ -240,7 +240,7 @@ pub fn evaluate<'q, 'a, T: Trade>(
     ensures again { IfErr result (RepeatsKept state.now) }
     ensures exact { (h : History) → StateRepresents state.now h → (T.trade trade.now).represents h
         → site_kind h ≡ Some (T.trade trade.now).site
-        → answered (evaluated (authorized_entry state.now.time q.now.target) result) ≡ model.answer h state.now.time limits q.now }
+        → answered (evaluated (authorized_entry state.now.time q.now.target) result) ≡ model.answer_within state.now.kept.keep h state.now.time limits q.now }
 {
     let request = q.request();
     match trade.draw(request.target) {

@@ -289,6 +289,13 @@ impl HouseState {
         self.kept.first()
     }
 
+    /// Lets go what is kept for repeats, and has replies come again within one second alone from here on.
+    pub fn keep_briefly(&mut self)
+        ensures { self.new ≡ record self.old { kept = record { keep = 1; replies = []; room = 0 } } }
+    {
+        self.kept = Kept::new(self.alloc(), 1);
+    }
+
     /// Raises the house time to a reading where that is later, and answers it. Replies whose keeping time
     /// is over are let go, and so are the windows of series that have ended.
     pub fn raise(&mut self, reading: Moment) -> Moment

@@ -9,7 +9,7 @@ use Rattle.house_state.proofs.evaluating.evaluate_scrip.Goals as goal
 
 pub returns-in-Err-clause-exact : goal.returns-in-Err-clause-exact
 returns-in-Err-clause-exact g c h st trade kind =
-    unread h c.args.state.now.time c.args.limits c.args.q.now (Refuse c.in-Err.refusal) c.in-Err.ensures.read
+    unread c.args.state.now.kept.keep h c.args.state.now.time c.args.limits c.args.q.now (Refuse c.in-Err.refusal) c.in-Err.ensures.read
 
 pub returns-in-Some-clause-exact : goal.returns-in-Some-clause-exact
 returns-in-Some-clause-exact g c h st trade kind =

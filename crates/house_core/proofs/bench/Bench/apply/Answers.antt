@@ -6,9 +6,9 @@ use Rattle.house_core.specs.BenchView.{BenchView}
 use Rattle.house_state.specs.Learning.{ByTrade, MayLearn}
 use Rattle.house_state.specs.Verdicts.{authorized_entry, IsCommitted}
 use Rattle.house_core.proofs.Accepting.{on_is_ok}
-use Rattle.house_core.proofs.Committing.{may_learn, trade_half, puts_no_goods, kept_of, replies_committed, kept_held, kept_in_force, used_committed, stands_committed}
+use Rattle.house_core.proofs.Committing.{may_learn, trade_half, puts_no_goods, kept_of, replies_committed, keep_committed, kept_held, kept_in_force, used_committed, stands_committed}
 use Rattle.house_core.proofs.Contents.{contents_taken}
-use Rattle.house_core.proofs.FirstEntry.{kind_stays}
+use Rattle.house_core.proofs.FirstEntry.{keeping_stays, kind_stays}
 use Rattle.house_core.proofs.bench.Bench.apply.Goals as goal
 
 pub returns-clause-exact : goal.returns-clause-exact
@@ -36,9 +36,10 @@ returns-clause-contents g c = rw (← c.self.view_is) (λ h st has in_force.
     let q = c.args.q.now in
     let a = c.args.authorization.now in
     let after : BenchView g.row.T.Denot = record { state = c.commit.new.self; trade = c.learn-learned.new.self; tally = c.self.inside.tally } in
-    let more = replies_committed b c.commit.new.self q a (subst (λ (p : Asked). IsCommitted b c.commit.new.self p a) c.request.ensures c.commit.ensures.committed) in
+    let is : IsCommitted b c.commit.new.self q a = subst (λ (p : Asked). IsCommitted b c.commit.new.self p a) c.request.ensures c.commit.ensures.committed in
+    let stays = keeping_stays b.limits h (authorized_entry b.time q.target a) st.state.lawful in
     contents_taken g.T.Trade.trade _ after h (authorized_entry b.time q.target a) (kept_of b q a) has (λ target. puts_no_goods b.time q.target target a)
-    more c.learn-learned.ensures.held (kept_held b q (g.T.Trade.trade c.self.inside.trade).holds a (rw (← c.self.view_is) at c.requires.held)) (kept_in_force b q h a in_force))
+    stays (keep_committed b c.commit.new.self q a is) (replies_committed b c.commit.new.self q a is) c.learn-learned.ensures.held (kept_held b q (g.T.Trade.trade c.self.inside.trade).holds a (rw (← c.self.view_is) at c.requires.held)) (kept_in_force b q h a in_force))
 
 pub returns-clause-used : goal.returns-clause-used
 returns-clause-used g c = rw (← c.self.view_is) (λ used.

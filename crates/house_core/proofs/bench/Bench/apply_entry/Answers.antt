@@ -12,7 +12,7 @@ use Rattle.house_state.specs.LiveWindows.{AreUsed}
 use Rattle.house_state.specs.Representation.{StateRepresents}
 use Rattle.house_core.proofs.Contents.{contents_applied, contents_as_before}
 use Rattle.house_core.proofs.Entered.{stands_more}
-use Rattle.house_core.proofs.FirstEntry.{kind_stays}
+use Rattle.house_core.proofs.FirstEntry.{keeping_stays, kind_stays}
 use Rattle.house_core.proofs.KeptLater.{stands_later, room_later, goes_later, contents_raised}
 use Rattle.house_core.proofs.Applied.{command_fits, house_half, says_command}
 use Rattle.house_state.proofs.PartLaws.{halves}
@@ -65,14 +65,14 @@ returns-clause-contents g c = rw (← c.self.view_is) (λ h st has.
     let learned : BenchView g.row.T.Denot = record { state = c.self.inside.state; trade = c.learn.new.self; tally = c.self.inside.tally } in
     let raised : BenchView g.row.T.Denot = record { state = c.raise.new.self; trade = c.learn.new.self; tally = c.self.inside.tally } in
     let after : BenchView g.row.T.Denot = record { state = c.apply_entry.new.self; trade = c.learn.new.self; tally = c.self.inside.tally } in
-    let one = contents_applied g.T.Trade.trade _ learned h e has st.state.replies refl c.in-Ok.ensures.held in
-    let two = contents_raised g.T.Trade.trade learned raised (h ++ e ∷ []) (max c.self.inside.state.time c.moment.result) one c.raise.ensures.replies (λ n held. held) in
-    contents_as_before g.T.Trade.trade raised after (h ++ e ∷ []) two (ap (λ (k : KeptView). k.replies) c.apply_entry.ensures.kept) (λ n held. held))
+    let one = contents_applied g.T.Trade.trade _ learned h e has st.state.replies (keeping_stays c.self.inside.state.limits h e st.state.lawful) refl refl c.in-Ok.ensures.held in
+    let two = contents_raised g.T.Trade.trade learned raised (h ++ e ∷ []) (max c.self.inside.state.time c.moment.result) one c.raise.ensures.keep c.raise.ensures.replies (λ n held. held) in
+    contents_as_before g.T.Trade.trade raised after (h ++ e ∷ []) two (ap (λ (k : KeptView). k.keep) c.apply_entry.ensures.kept) (ap (λ (k : KeptView). k.replies) c.apply_entry.ensures.kept) (λ n held. held))
 
 pub returns-in-Err-clause-contents : goal.returns-in-Err-clause-contents
 returns-in-Err-clause-contents g c = rw (← c.self.view_is) (λ h st has.
     let after : BenchView g.row.T.Denot = record { state = c.self.inside.state; trade = c.learn.new.self; tally = c.self.inside.tally } in
-    contents_as_before g.T.Trade.trade _ after h has refl c.in-Err.ensures.held)
+    contents_as_before g.T.Trade.trade _ after h has refl refl c.in-Err.ensures.held)
 
 pub returns-clause-time : goal.returns-clause-time
 returns-clause-time g c = rw (← c.self.view_is) (

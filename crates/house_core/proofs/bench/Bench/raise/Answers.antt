@@ -19,7 +19,7 @@ returns-clause-same g c = rw (← c.self.view_is) (λ h st.
 pub returns-clause-contents : goal.returns-clause-contents
 returns-clause-contents g c = rw (← c.self.view_is) (λ h st has.
     contents_later g.T.Trade.trade _ (record { state = c.raise-time.new.self; trade = c.forget.new.self; tally = c.self.inside.tally }) h (max c.self.inside.state.time c.args.reading) c.first_kept.result has
-    c.raise-time.ensures.replies c.first_kept.ensures.least (λ e. c.first_kept.ensures.none.0 (rw e refl)) (λ n kept held. c.forget.ensures.held h n st.learned kept held))
+    c.raise-time.ensures.keep c.raise-time.ensures.replies c.first_kept.ensures.least (λ e. c.first_kept.ensures.none.0 (rw e refl)) (λ n kept held. c.forget.ensures.held h n st.learned kept held))
 
 pub returns-clause-freed : goal.returns-clause-freed
 returns-clause-freed g c = rw (← c.self.view_is) (λ h n st held.
