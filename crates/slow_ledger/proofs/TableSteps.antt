@@ -14,6 +14,7 @@ use Rattle.ledger_model.specs.Orders.{Order}
 use Rattle.ledger_model.specs.Accounts.{key_in}
 use Rattle.ledger_model.specs.Lines.{Stop, ◌>>=◌, given, again_if}
 use Rattle.ledger_model.specs.Stages.{read_by, certified, Offer, needed, drawable_by, payable_by}
+use Rattle.ledger_model.specs.Houses.{keeping}
 use Rattle.ledger_model.specs.Answer.{repeated, offer, next_own, fitted, taken, after_read, after_repeat, lines, known_in, drawn}
 use Rattle.slow_ledger.specs.Slow.{Tells, Evaluates, after_again}
 
@@ -73,18 +74,18 @@ taken_full h t limits q s sign value o change text stops.NoMemory is e c text_is
 -- ---- repeats
 
 pub to_repeat : (h : History) (t : ℕ) (limits : Limits) (q : Asked) (s : Certified) (found : Option ℕ)
-    → found ≡ repeated h t s q → after_read h t limits q s ≡ (again_if found >>= λ _. after_repeat h t limits q s)
+    → found ≡ repeated h t s q → after_read (keeping h) h t limits q s ≡ (again_if found >>= λ _. after_repeat h t limits q s)
 to_repeat h t limits q s found e = ap (λ (o : Option ℕ). again_if o >>= λ _. after_repeat h t limits q s) (sym e)
 
 -- ---- 20, 21
 
 pub to_read : (h : History) (t : ℕ) (limits : Limits) (q : Asked) (s : Certified) (text : List ℕ)
-    → q.scrip ≡ Some text → s.text ≡ text → scrip_of text ≡ Ok (s.piece, s.cert) → lines h t limits q ≡ after_read h t limits q s
+    → q.scrip ≡ Some text → s.text ≡ text → scrip_of text ≡ Ok (s.piece, s.cert) → lines h t limits q ≡ after_read (keeping h) h t limits q s
 to_read h t limits q s text given_is text_is read =
     let is : read_by q.scrip ≡ Ok s =
     ap read_by given_is ∙ ap (λ (r : Result (Scrip × List ℕ) ℕ). certified text r) read
     ∙ ap (λ (x : List ℕ). certified x (Ok (s.piece, s.cert))) (sym text_is) in
-    ap (λ (r : Result Certified Stop). r >>= after_read h t limits q) is
+    ap (λ (r : Result Certified Stop). r >>= after_read (keeping h) h t limits q) is
 
 -- ---- draws
 

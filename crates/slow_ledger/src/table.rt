@@ -7,6 +7,7 @@ ghost use Rattle.mc_records.specs.Entry as entries;
 ghost use Rattle.mc_records.specs.Limits.{AreInRange};
 ghost use Rattle.mc_records.specs.Requests.{asked_of};
 ghost use Rattle.mc_records.specs.Views.{deed_of};
+ghost use Rattle.ledger_model.specs.Houses.{keeping};
 ghost use Rattle.ledger_model.specs.Answer as model;
 ghost use Rattle.slow_ledger.specs.Shown.{Shows};
 ghost use Rattle.ledger_model.specs.Answer.{after_read, after_repeat, draw_in, column};
@@ -213,7 +214,7 @@ fn evaluate_read(
     s: &ScripRef<'_>,
 ) -> Result<Vec<u8>, Stopped>
     requires { AreInRange limits }
-    ensures { Evaluates result (after_read h.now time limits (asked_of q.now) s.now) }
+    ensures { Evaluates result (after_read (keeping h.now) h.now time limits (asked_of q.now) s.now) }
 {
     match repeated(h, time, q, s) {
         Some(number) => Err(Stopped::Again(number)),
