@@ -6,7 +6,7 @@ they have.
     scripts/measure/trees.py [ENTRIES]
 
 Each broker has a licence of each vendor. Of a piece of 250 units that a broker sells, a vendor is paid ten times. ENTRIES
-(1,000,000) are those of all books together."""
+(1,000,000) are those of all books together, a thousand a second."""
 import os
 import resource
 import subprocess
@@ -17,12 +17,12 @@ from pathlib import Path
 sys.path.insert(0, str(Path(__file__).resolve().parents[1] / "lib"))
 
 import millicent  # noqa: E402
-from generate.markets import Bank, House, terms  # noqa: E402
+from generate.markets import NOW, Bank, House, terms  # noqa: E402
 from millicent import ACCEPT  # noqa: E402
 from serving import PROGRAM  # noqa: E402
 from timing import BLOCK, md5sum, sha256sum, timed  # noqa: E402
 
-SHARES, PIECE, PRICE = 10, 250, 25
+SHARES, PIECE, PRICE, RATE = 10, 250, 25, 1000
 # A draw, a sale, and what a vendor is paid with the piece and its change.
 OF_A_PIECE = 2 + PIECE // PRICE
 
@@ -52,6 +52,7 @@ def trade(banks, vendors, pieces):
     orders = [0] * SHARES
     for n in range(pieces):
         by, of = n % SHARES, vendors[n // SHARES % SHARES]
+        banks[by].time = of.time = NOW + n * OF_A_PIECE // RATE
         orders[by] += 1
         drawn = banks[by].draw(b"ann", orders[by], PIECE + 1)
         back = banks[by].pay(drawn, b"/buy/%s/%d" % (of.name, PIECE))
