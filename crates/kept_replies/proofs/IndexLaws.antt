@@ -41,7 +41,7 @@ leads_weaker p q weaker index t =
 -- ---- slots
 
 -- a slot that leads from a tag has its last bits
-short_is : (t : ℕ) (p : ℕ → Bool) (slot : ℕ) → slot_leads t p slot ≡ true → slot / MARKS ≡ t % SHORTS
+pub short_is : (t : ℕ) (p : ℕ → Bool) (slot : ℕ) → slot_leads t p slot ≡ true → slot / MARKS ≡ t % SHORTS
 unfolding marked_in
 short_is t p slot lead = go (not (eqb slot 0) && eqb (slot / MARKS) (t % SHORTS)) refl lead
   where

@@ -142,6 +142,21 @@ pub(crate) fn mark_in(slot: u64, tag: u64) -> Option<u64>
     (slot != 0 && slot / MARKS == tag % SHORTS).then_some(slot % MARKS)
 }
 
+/// Whether a slot among these may have a mark that was put under this tag, or under one of the same last bits. It looks at
+/// all, which is quicker than to stop at the first.
+pub(crate) fn may_lead(slots: &[u64], tag: u64) -> bool
+    ensures { (p : ℕ → Bool) → IsTrue (list_any (slot_leads tag p) slots.now) → IsTrue result }
+{
+    let short = tag % SHORTS;
+    let mut may = false;
+    for slot in slots {
+        if *slot / MARKS == short {
+            may = true;
+        }
+    }
+    may
+}
+
 /// The slot of a mark that is put under a tag. None where the mark would not be read in it again: it is
 /// too large, or all bits are 0.
 fn slot_of(tag: u64, mark: u64) -> Option<u64>
@@ -179,7 +194,14 @@ fn slots_at(buckets: &Vec<[u64; WIDTH]>, at: usize) -> &[u64]
 
 /// How many slots of a bucket are empty.
 fn free_at(buckets: &Vec<[u64; WIDTH]>, at: usize) -> usize {
-    slots_at(buckets, at).iter().filter(|s| **s == 0).count()
+    // A plain loop becomes a few instructions for many slots, which an iterator with a test does not.
+    let mut free = 0usize;
+    for slot in slots_at(buckets, at) {
+        if *slot == 0 {
+            free = free.wrapping_add(1);
+        }
+    }
+    free
 }
 
 /// Where the first slot stands that is as said.

@@ -8,7 +8,7 @@ ghost use Rattle.std.specs.Bool.{then_some};
 ghost use Rattle.std.specs.List.{list_any};
 ghost use Rattle.kept_replies.specs.Kept.{entry_size, AreRising, has_request, has_number, is_in_time, found, NoneInTime, with_number, first_number, inserted, reply_of};
 
-use crate::index::{Index, mark_in, tag_of};
+use crate::index::{Index, mark_in, may_lead, tag_of};
 use crate::parts::MOST_BESIDE;
 use crate::reply::Reply;
 use crate::together::put_together;
@@ -241,6 +241,9 @@ impl Kept {
         ensures repeat { IfSome result (λ n. IsTrue (is_repeat self.now now (asked_of q.now) n)) }
         ensures none { IsNone result → IsFalse (list_any (slot_leads tag (is_repeat self.now now (asked_of q.now))) slots.now) }
     {
+        if !may_lead(slots, tag) {
+            return None;
+        }
         for slot in slots {
             match self.repeat_in(*slot, tag, now, q) {
                 Some(number) => return Some(number),
