@@ -110,6 +110,7 @@ impl<T: Trade> Bench<T> {
         ensures holds { IfOk result (λ b. Represents T.trade b (entry site.now ∷ [])) }
         ensures time { IfOk result (λ b. house_time b ≡ moment_of (entry site.now)) }
         ensures limits { IfOk result (λ b. limits_of b ≡ limits) }
+        ensures brief { IfOk result (λ b. b.state.kept.keep ≡ 1) }
     {
         let mut bench = Bench::new(alloc, site, limits, trade)?;
         bench.state.keep_briefly();
