@@ -8,7 +8,6 @@ they have.
 Each broker has a licence of each vendor. Of a piece of 250 units that a broker sells, a vendor is paid ten times. ENTRIES
 (1,000,000) are those of all books together, a thousand a second."""
 import os
-import resource
 import subprocess
 import sys
 import tempfile
@@ -23,6 +22,11 @@ from serving import PROGRAM  # noqa: E402
 from timing import BLOCK, md5sum, sha256sum, timed  # noqa: E402
 
 SHARES, PIECE, PRICE, RATE = 10, 250, 25, 1000
+# Runs a program and tells the most memory that it took, in KB. This process has all books in memory, which a program that it starts
+# itself would be charged with.
+MOST = """import resource, subprocess, sys
+subprocess.run(sys.argv[1:], check=True, stdout=subprocess.DEVNULL)
+print(resource.getrusage(resource.RUSAGE_CHILDREN).ru_maxrss)"""
 # A draw, a sale, and what a vendor is paid with the piece and its change.
 OF_A_PIECE = 2 + PIECE // PRICE
 
@@ -82,11 +86,10 @@ def audited(houses, books, folder):
         for book in books:
             with open(book, "rb") as part:
                 f.write(part.read())
-    before = resource.getrusage(resource.RUSAGE_CHILDREN).ru_maxrss
-    seconds = timed(lambda: subprocess.run([PROGRAM, "audit", "tree", *books], check=True, stdout=subprocess.DEVNULL))
-    memory = resource.getrusage(resource.RUSAGE_CHILDREN).ru_maxrss * 1024
-    assert memory > before * 1024
-    return seconds, md5sum(whole) + sha256sum(joined), memory, os.path.getsize(joined)
+    words = [PROGRAM, "audit", "tree", *books]
+    seconds = timed(lambda: subprocess.run(words, check=True, stdout=subprocess.DEVNULL))
+    told = subprocess.run([sys.executable, "-c", MOST, *words], check=True, stdout=subprocess.PIPE)
+    return seconds, md5sum(whole) + sha256sum(joined), int(told.stdout) * 1024, os.path.getsize(joined)
 
 
 def main():
