@@ -1,7 +1,7 @@
 -- Reading bytes one after the other, as a loop does.
-use Rattle.std.proofs.Common.{◌≡◌, ℕ, suc, ◌-◌, ◌+◌, ◌*◌, ◌≤◌, ◌<◌, List, [], ◌∷◌, ◌++◌, length, take, set, Ok, Err, refl, sym, ap, ◌∙◌, append_assoc, arith}
-use Rattle.std.proofs.lemmas.List.{append-nil, take_all, take_more_set, length-set}
-use Rattle.mc_fields.specs.Reading.{Read, ◌>>=◌, pair_at, map_read, digit_at, byte_at, hex_at}
+use Rattle.std.proofs.Common.{◌≡◌, ℕ, suc, ◌-◌, ◌+◌, ◌*◌, ◌≤◌, ◌<◌, List, [], ◌∷◌, ◌++◌, length, take, drop, set, Some, Ok, Err, refl, sym, ap, ◌∙◌, append_assoc, slice_index_or, arith}
+use Rattle.std.proofs.lemmas.List.{append-nil, take_all, take_more_set, length-set, drop_more}
+use Rattle.mc_fields.specs.Reading.{Read, ◌>>=◌, pair_at, map_read, digit_of, digit_at, byte_at, hex_at}
 use Rattle.mc_fields.proofs.Formats.{done, failed}
 
 -- what was read before, and what is still read
@@ -50,6 +50,18 @@ byte_joined b (Err e) = refl
 
 hex_step : (n : ℕ) (rest tail : List ℕ) (b : ℕ) → byte_at rest ≡ done (b, tail) → hex_at (suc n) rest ≡ map_read (λ bytes. b ∷ bytes) (hex_at n tail)
 hex_step n rest tail b h = hex_by_byte n rest ∙ rw h (byte_joined b (hex_at n tail))
+
+byte_of : (c d high low : ℕ) (tail : List ℕ) → digit_of c ≡ Some high → digit_of d ≡ Some low → byte_at (c ∷ d ∷ tail) ≡ done (high * 16 + low, tail)
+unfolding byte_at digit_at
+byte_of c d high low tail is_high is_low = rw (is_high, is_low) refl
+
+-- the byte at a place of a list is that of the two digits that stand there
+pub byte_at_place : (front rest : List ℕ) (i high low : ℕ) → 2 * i + 1 < length front → digit_of (slice_index_or front (2 * i) 0) ≡ Some high → digit_of (slice_index_or front (2 * i + 1) 0) ≡ Some low
+    → byte_at (drop (2 * i) front ++ rest) ≡ done (high * 16 + low, drop (2 * (i + 1)) front ++ rest)
+byte_at_place front rest i high low lt is_high is_low =
+    let next : 2 * i + 1 + 1 ≡ 2 * (i + 1) = omega arith in
+    rw (drop_more front (2 * i) 0 (omega (arith, lt)), drop_more front (2 * i + 1) 0 lt, next)
+    (byte_of (slice_index_or front (2 * i) 0) (slice_index_or front (2 * i + 1) 0) high low (drop (2 * (i + 1)) front ++ rest) is_high is_low)
 
 pub hex_goes_on : (count i : ℕ) (out rest tail : List ℕ) (b : ℕ) (total : Read (List ℕ)) → i < count → byte_at rest ≡ done (b, tail)
     → IsSoFar count i out rest total → IsSoFar count (i + 1) (set out i b) tail total

@@ -12,4 +12,4 @@ pub mod FieldBytes
 pub mod FormLaws
 pub mod StopLaws
 pub mod CutLaws
-pub mod DigitTable
+pub mod DigitValues

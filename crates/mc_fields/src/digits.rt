@@ -1,4 +1,4 @@
-ghost use Rattle.std.specs.Prelude.{◌≡◌, ◌≤◌, ◌<◌, Some, None};
+ghost use Rattle.std.specs.Prelude.{◌≡◌, ◌*◌, ◌<◌, ◌≤◌, Some, None, Ok, IfSome, max};
 ghost use Rattle.mc_fields.specs.Reading.{digit_of, byte_at, hex_at};
 ghost use Rattle.mc_fields.specs.Gives.{Gives};
 
@@ -6,6 +6,45 @@ use crate::stuck::Stuck;
 
 /// Bytes, each spelled as two lower-case hex digits, the high one first.
 pub fn read_hex<const N: usize>(bytes: &[u8]) -> Result<([u8; N], &[u8]), Stuck>
+    ensures { Gives (λ x. (x.0, x.1.now)) result (hex_at N bytes.now) }
+{
+    match read_places(bytes) {
+        Some(read) => Ok(read),
+        None => read_each(bytes),
+    }
+}
+
+/// The same, where all stand. All digits are looked at before one is judged, so that a processor reads many at once.
+#[inline(always)]
+fn read_places<const N: usize>(bytes: &[u8]) -> Option<([u8; N], &[u8])>
+    ensures { IfSome result (λ x. hex_at N bytes.now ≡ Ok (x.0, x.1.now)) }
+{
+    if bytes.len() / 2 < N {
+        return None;
+    }
+    let (front, rest) = bytes.split_at(2 * N);
+    let mut out = [0; N];
+    let mut most = 0;
+    for i in 0..N {
+        let high = digit_value(front[2 * i]);
+        let low = digit_value(front[2 * i + 1]);
+        most = greater(most, greater(high, low));
+        out[i] = high.wrapping_mul(16).wrapping_add(low);
+    }
+    if most < 16 { Some((out, rest)) } else { None }
+}
+
+/// The greater of two.
+#[inline(always)]
+fn greater(a: u8, b: u8) -> u8
+    ensures { result ≡ max a b }
+{
+    if a < b { b } else { a }
+}
+
+/// The same, a byte after the other, which tells the place of the first that is none.
+#[inline(never)]
+fn read_each<const N: usize>(bytes: &[u8]) -> Result<([u8; N], &[u8]), Stuck>
     ensures { Gives (λ x. (x.0, x.1.now)) result (hex_at N bytes.now) }
 {
     let mut out = [0; N];
@@ -41,40 +80,14 @@ fn read_byte(bytes: &[u8]) -> Result<(u8, &[u8]), Stuck>
     }
 }
 
-/// The value of each byte as a hex digit in lower case, and 255 of those that are none. A table has no way to choose, and a
-/// digit can't be foreseen.
-const VALUES: [u8; 256] = [
-    255, 255, 255, 255, 255, 255, 255, 255, 255, 255, 255, 255, 255, 255, 255, 255, 255, 255, 255,
-    255, 255, 255, 255, 255, 255, 255, 255, 255, 255, 255, 255, 255, 255, 255, 255, 255, 255, 255,
-    255, 255, 255, 255, 255, 255, 255, 255, 255, 255, 0, 1, 2, 3, 4, 5, 6, 7, 8, 9, 255, 255, 255,
-    255, 255, 255, 255, 255, 255, 255, 255, 255, 255, 255, 255, 255, 255, 255, 255, 255, 255, 255,
-    255, 255, 255, 255, 255, 255, 255, 255, 255, 255, 255, 255, 255, 255, 255, 255, 255, 10, 11,
-    12, 13, 14, 15, 255, 255, 255, 255, 255, 255, 255, 255, 255, 255, 255, 255, 255, 255, 255, 255,
-    255, 255, 255, 255, 255, 255, 255, 255, 255, 255, 255, 255, 255, 255, 255, 255, 255, 255, 255,
-    255, 255, 255, 255, 255, 255, 255, 255, 255, 255, 255, 255, 255, 255, 255, 255, 255, 255, 255,
-    255, 255, 255, 255, 255, 255, 255, 255, 255, 255, 255, 255, 255, 255, 255, 255, 255, 255, 255,
-    255, 255, 255, 255, 255, 255, 255, 255, 255, 255, 255, 255, 255, 255, 255, 255, 255, 255, 255,
-    255, 255, 255, 255, 255, 255, 255, 255, 255, 255, 255, 255, 255, 255, 255, 255, 255, 255, 255,
-    255, 255, 255, 255, 255, 255, 255, 255, 255, 255, 255, 255, 255, 255, 255, 255, 255, 255, 255,
-    255, 255, 255, 255, 255, 255, 255, 255, 255, 255, 255, 255, 255, 255, 255, 255, 255, 255, 255,
-    255, 255, 255, 255,
-];
-
 /// The value of a hex digit in lower case, and 255 of any other byte.
 #[inline(always)]
 fn digit_value(byte: u8) -> u8
     ensures digit { result < 16 → digit_of byte ≡ Some result }
     ensures other { 16 ≤ result → digit_of byte ≡ None }
 {
-    value_in(&VALUES, byte)
-}
-
-/// The same, by the table.
-#[inline(always)]
-fn value_in(table: &[u8; 256], byte: u8) -> u8
-    requires { table.now ≡ VALUES }
-    ensures digit { result < 16 → digit_of byte ≡ Some result }
-    ensures other { 16 ≤ result → digit_of byte ≡ None }
-{
-    table[byte as usize]
+    let decimal = byte.wrapping_sub(b'0');
+    let letter = byte.wrapping_sub(b'a' - 10);
+    let letter = if letter < 10 { u8::MAX } else { letter };
+    if decimal < 10 { decimal } else { letter }
 }

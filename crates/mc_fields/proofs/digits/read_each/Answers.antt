@@ -3,7 +3,7 @@ use Rattle.std.proofs.lemmas.Result.{err_from_is_err_and}
 use Rattle.std.proofs.lemmas.List.{length-replicate}
 use Rattle.mc_fields.specs.Reading.{hex_at}
 use Rattle.mc_fields.proofs.HexLoop.{hex_goes_on, hex_ends, hex_is_read, hex_starts}
-use Rattle.mc_fields.proofs.digits.read_hex.Goals as goal
+use Rattle.mc_fields.proofs.digits.read_each.Goals as goal
 
 pub loop-i-init : goal.loop-i-init
 loop-i-init g c = hex_starts g.row.N (replicate g.row.N 0) c.args.bytes.now (length-replicate {A = ℕ} g.row.N 0)
