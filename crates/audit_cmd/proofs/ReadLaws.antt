@@ -34,7 +34,7 @@ pub kept_learned : (r : BookReader) (h : History) → HasLearned auditor r h →
 kept_learned r h learned fits = record { sums = sums_of_reader r h learned.holds'; lawful = lawful_is h learned.follow learned.of_site; fits = fits }
 
 -- why an entry was not learned by a house whose trade takes it where it is a Note
-pub fault_told : {T A : Type 0} (trade : T → TradeView) (passes : History → Entry → Type 0) (b : BenchView T) (limits : Limits) (holds : A → History → Type 0) (h : History) (e : Entry) → Passes passes h e
-    → (fault : LearnFault) → Replays trade passes b limits h e (Err fault) → Learns (MayFollow limits) holds h e (Err fault)
-fault_told trade passes b limits holds h e passed faults.Unlawful replays = λ may. replays (record { follows = may; passed = passed })
-fault_told trade passes b limits holds h e passed faults.NoMemory replays = tt
+pub fault_told : {T A : Type 0} (X : Type 0) (trade : T → TradeView) (passes : History → Entry → Type 0) (b : BenchView T) (limits : Limits) (holds : A → History → Type 0) (h : History) (e : Entry) → Passes passes h e
+    → (fault : LearnFault) → Replays {X = X} trade passes b limits h e (Err fault) → Learns (MayFollow limits) holds h e (Err fault)
+fault_told X trade passes b limits holds h e passed faults.Unlawful replays = λ may. replays (record { follows = may; passed = passed })
+fault_told X trade passes b limits holds h e passed faults.NoMemory replays = tt

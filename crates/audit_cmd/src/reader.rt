@@ -1,22 +1,26 @@
 //! What reads the entries of one book.
 
-ghost use Rattle.std.specs.Prelude.{◌≡◌, ◌+◌, ◌≤◌, [], ◌∷◌, IfOk};
+ghost use Rattle.std.specs.Prelude.{◌≡◌, ◌+◌, ◌≤◌, [], ◌∷◌, option_map, IfOk};
 ghost use Rattle.mc_records.specs.Chains.{TellsChain};
-ghost use Rattle.mc_records.specs.Entry.{Fits};
+ghost use Rattle.mc_records.specs.Entry.{Entry, Fits};
 ghost use Rattle.mc_records.specs.Sizes.{size, entry_size};
 ghost use Rattle.mc_records.specs.Views.{entry};
 ghost use Rattle.mc_records.specs.declared.limits.TheConstants.Limits.{MOST_JOURNAL};
 ghost use Rattle.ledger_model.specs.Histories.{History};
 ghost use Rattle.ledger_model.specs.Lawful.{MayFollow};
+ghost use Rattle.ledger_model.specs.Pieces.{accepted_piece};
 ghost use Rattle.ledger_model.specs.declared.numbers.TheConstants.{BROKER_KIND};
 ghost use Rattle.scrip_journal.specs.Causes.{FoundsSite, Only};
 ghost use Rattle.book_opening.specs.Opener.{Learns};
 ghost use Rattle.house_state.specs.Learning.{Passes};
 ghost use Rattle.house_core.specs.Bench.{limits_of};
+ghost use Rattle.house_core.specs.Spent.{spent_in};
+ghost use Rattle.audit_model.specs.Parts as parts;
 ghost use Rattle.audit_cmd.specs.Reading.{Reads};
 
+use audit_model::Part;
 use audit_sums::BookSums;
-use house_core::Bench;
+use house_core::{Bench, SpentPiece};
 use house_state::Trade;
 use mc_base::NoMemory;
 use mc_records::{Limits, Record};
@@ -58,11 +62,11 @@ impl<T: Trade> Reader<T> {
             → Reads T.trade self.old h → TellsChain h (entry r.now) → size h + entry_size h (entry r.now) ≤ MOST_JOURNAL
             → Learns (MayFollow Limits.FULL) (λ u. Reads T.trade self.new) h (entry r.now) result }
     {
-        match self.bench.replay(r) {
-            Ok(()) => (),
+        let spent = match self.bench.replay(r) {
+            Ok(spent) => spent,
             Err(fault) => return Err(fault),
-        }
-        match self.sums.learn(r) {
+        };
+        match self.sums.learn(r, &part_of(spent)) {
             Ok(()) => Ok(()),
             Err(NoMemory) => Err(LearnFault::NoMemory),
         }
@@ -74,5 +78,19 @@ impl<T: Trade> Reader<T> {
     {
         let Reader { bench: _, sums } = self;
         sums
+    }
+}
+
+/// What sums keep of the piece that a house told.
+fn part_of(spent: Option<SpentPiece>) -> Option<Part>
+    ensures { (e : Entry) → spent ≡ spent_in e → result ≡ option_map parts.part_of (accepted_piece e) }
+{
+    match spent {
+        Some(spent) => Some(Part {
+            id: spent.id,
+            value: spent.value,
+            expires: spent.expires,
+        }),
+        None => None,
     }
 }

@@ -1,10 +1,12 @@
 //! What an audit keeps of a book.
 
-ghost use Rattle.std.specs.Prelude.{◌≡◌, ◌++◌, ◌∷◌, [], max, Some, OnOk};
+ghost use Rattle.std.specs.Prelude.{◌≡◌, ◌++◌, ◌∷◌, [], max, Some, option_map, OnOk};
 ghost use Rattle.mc_records.specs.Entry.{Fits};
 ghost use Rattle.mc_records.specs.Views.{entry};
 ghost use Rattle.ledger_model.specs.Histories.{History};
 ghost use Rattle.ledger_model.specs.Lawful.{IsHouseSite};
+ghost use Rattle.ledger_model.specs.Pieces.{accepted_piece};
+ghost use Rattle.audit_model.specs.Parts.{part_of};
 ghost use Rattle.audit_sums.specs.Learned.{SumsRepresent, name_of, kind_of, time_of, till_of, accepted_of, own_out_of, runs_of, sales_of, licences_of, stock_rows_of};
 
 use crate::market::Market;
@@ -60,15 +62,17 @@ impl BookSums {
         }
     }
 
-    /// Learns the next entry. After an `Err` nothing is said of what is kept.
-    pub fn learn(&mut self, r: &Record<'_>) -> Result<(), NoMemory>
-        requires { Fits (entry r.now) }
+    /// Learns the next entry, by the piece that it accepts, where it accepts one. After an `Err` nothing is said of what is
+    /// kept.
+    pub fn learn(&mut self, r: &Record<'_>, paid: &Option<Part>) -> Result<(), NoMemory>
+        requires fits { Fits (entry r.now) }
+        requires paid { paid.now ≡ option_map part_of (accepted_piece (entry r.now)) }
         ensures { (h : History) → SumsRepresent self.old h
             → OnOk result (SumsRepresent self.new (h ++ entry r.now ∷ [])) }
     {
         self.time = later(self.time, r.moment());
         self.till.count(self.fee, r)?;
-        self.pieces.learn(&self.terms, r)?;
+        self.pieces.learn(&self.terms, r, paid)?;
         self.market.learn(r)
     }
 

@@ -1,6 +1,6 @@
 //! What a broker sold, and of what.
 
-ghost use Rattle.std.specs.Prelude.{◌≡◌, ◌++◌, ◌∷◌, [], filter_map, OnOk};
+ghost use Rattle.std.specs.Prelude.{◌≡◌, ◌++◌, ◌∷◌, [], filter_map, option_to_list, OnOk};
 ghost use Rattle.mc_records.specs.Entry.{Fits};
 ghost use Rattle.mc_records.specs.PieceViews.{pieces_of};
 ghost use Rattle.mc_records.specs.Views.{entry};
@@ -45,23 +45,24 @@ impl Market {
             → OnOk result (ShowsMarket self.new (h ++ entry r.now ∷ [])) }
     {
         put(&mut self.sales, Sold::read(r))?;
-        put(&mut self.licences, licence(r))?;
+        put_licence(&mut self.licences, r)?;
         put_stock(&mut self.stock, r)
     }
 }
 
-/// The licence that an entry gives.
-fn licence(r: &Record<'_>) -> Option<Licence>
+/// Puts the licence that an entry gives behind the others.
+fn put_licence(licences: &mut Vec<Licence>, r: &Record<'_>) -> Result<(), NoMemory>
     requires { Fits (entry r.now) }
-    ensures { result ≡ licence_of (entry r.now) }
+    ensures { OnOk result (licences.new.items ≡ licences.old.items ++ option_to_list (licence_of (entry r.now))) }
 {
     match r {
-        Record::Licence { vendor, terms, .. } => Some(Licence {
+        Record::Licence { vendor, terms, .. } => licences.push(Licence {
             vendor: Name::new(vendor).unwrap(),
             terms: *terms,
-        }),
-        _ => None,
+        })?,
+        _ => (),
     }
+    Ok(())
 }
 
 /// Puts the pieces of a Stock entry behind the others.

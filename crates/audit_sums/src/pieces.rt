@@ -1,12 +1,14 @@
 //! The pieces of a book.
 
-ghost use Rattle.std.specs.Prelude.{◌≡◌, ◌++◌, ◌∷◌, [], option_to_list, Some, OnOk};
+ghost use Rattle.std.specs.Prelude.{◌≡◌, ◌++◌, ◌∷◌, [], option_map, option_to_list, Some, OnOk};
 ghost use Rattle.mc_records.specs.Views.{entry};
 ghost use Rattle.ledger_model.specs.Histories.{History};
 ghost use Rattle.ledger_model.specs.Houses.{terms_in};
+ghost use Rattle.ledger_model.specs.Pieces.{accepted_piece};
+ghost use Rattle.audit_model.specs.Parts.{part_of};
 ghost use Rattle.audit_sums.specs.Learned.{ShowsPieces};
 
-use crate::readings::{acceptance, handed, paid, run};
+use crate::readings::{acceptance, handed, run};
 use crate::rows::{Acceptance, Run};
 use audit_model::Part;
 use mc_base::NoMemory;
@@ -36,15 +38,20 @@ impl Pieces {
         }
     }
 
-    /// Learns the pieces of the next entry of a house with these terms of its own. After an `Err` nothing is said of
-    /// what is kept.
-    pub(crate) fn learn(&mut self, terms: &Terms, r: &Record<'_>) -> Result<(), NoMemory>
+    /// Learns the pieces of the next entry of a house with these terms of its own, by the piece that it accepts. After an
+    /// `Err` nothing is said of what is kept.
+    pub(crate) fn learn(
+        &mut self,
+        terms: &Terms,
+        r: &Record<'_>,
+        paid: &Option<Part>,
+    ) -> Result<(), NoMemory>
+        requires { paid.now ≡ option_map part_of (accepted_piece (entry r.now)) }
         ensures { (h : History) → terms_in h 0 ≡ Some terms.now → ShowsPieces self.old h
             → OnOk result (ShowsPieces self.new (h ++ entry r.now ∷ [])) }
     {
-        let paid = paid(r);
-        put(&mut self.accepted, acceptance(r, &paid))?;
-        put(&mut self.own_out, handed(terms, r, &paid))?;
+        put(&mut self.accepted, acceptance(r, paid))?;
+        put(&mut self.own_out, handed(terms, r, paid))?;
         put(&mut self.minted, run(r))
     }
 }

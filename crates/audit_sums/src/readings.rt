@@ -92,17 +92,7 @@ pub(crate) fn fee_taken(fee: u64, r: &Record<'_>) -> u64
 
 // ---- pieces
 
-/// The piece that an entry accepts, where its text is one.
-pub(crate) fn paid(r: &Record<'_>) -> Option<Part>
-    ensures { result ≡ option_map part_of (accepted_piece (entry r.now)) }
-{
-    match r {
-        Record::Accept { scrip, .. } => Part::read(scrip),
-        _ => None,
-    }
-}
-
-/// What is kept of the piece that an entry accepts, which was read.
+/// What is kept of the piece that an entry accepts.
 pub(crate) fn acceptance(r: &Record<'_>, paid: &Option<Part>) -> Option<Acceptance>
     requires { paid.now ≡ option_map part_of (accepted_piece (entry r.now)) }
     ensures { result ≡ acceptance_of (entry r.now) }
@@ -135,7 +125,7 @@ pub(crate) fn run(r: &Record<'_>) -> Option<Run>
     }
 }
 
-/// The piece that an entry hands out in the house's own series, whose terms these are. The piece that it accepts was read.
+/// The piece that an entry hands out in the house's own series, whose terms these are, by the piece that it accepts.
 pub(crate) fn handed(terms: &Terms, r: &Record<'_>, paid: &Option<Part>) -> Option<Part>
     requires { paid.now ≡ option_map part_of (accepted_piece (entry r.now)) }
     ensures { (h : History) → terms_in h 0 ≡ Some terms.now

@@ -1,5 +1,5 @@
 -- What the ledger says of the entry of an authorization.
-use Rattle.std.proofs.Common.{◌≡◌, ℕ, ◌+◌, ◌<◌, ◌≤◌, ◌^◌, Bool, true, false, List, [], Option, Some, None, Result, Ok, refl, sym, ap, ap₂, ◌∙◌, arith, ltb}
+use Rattle.std.proofs.Common.{◌≡◌, ℕ, ◌+◌, ◌<◌, ◌≤◌, ◌^◌, Bool, true, false, List, [], ◌∷◌, ◌++◌, Option, Some, None, Result, Ok, refl, sym, ap, ap₂, ◌∙◌, arith, ltb}
 use Rattle.std.specs.Prelude.{◌&&◌, option_map, bytes_eq, IfSome}
 use Rattle.std.specs.Result.{result_ok}
 use Rattle.hex.specs.Hex.{encode_lower}
@@ -25,9 +25,10 @@ use Rattle.house_state.specs.declared.verdict.Authorization.{Authorization}
 use Rattle.house_state.specs.Views.{entry_deed}
 use Rattle.house_state.specs.Trade.{BringsFor}
 use Rattle.house_state.specs.HouseState.{HouseStateView, HasChange, series_now, kept_entry, change_made, accept_growth}
-use Rattle.house_state.specs.Representation.{StateRepresents, scrip_request}
+use Rattle.house_state.specs.Representation.{StateRepresents, IsReply, scrip_request}
 use Rattle.house_state.specs.Verdicts.{accept_entry, IsReady}
-use Rattle.house_core.proofs.Entered.{Says}
+use Rattle.house_state.proofs.Entering.{if_kept}
+use Rattle.house_core.proofs.Entered.{Says, repeats_if}
 use Rattle.house_core.proofs.Replied.{handed_is, reply_new}
 
 -- ---- repeats
@@ -118,9 +119,9 @@ says_accept {b = b} {h = h} st q a read ready brings limits takes short =
       paid = taken.piece;
       handed = handed_is st q.target a taken.piece most ready.change short;
       series = change_series b a.scrip.now.piece a.price a.change most ready.change;
-      repeats = λ keep t p. repeats_alike b a.scrip.now.piece a keep t p q.target q.sign taken.sign;
-      number = refl;
-      reply = reply_new st q a taken.piece ready most short brings;
+      repeats = λ t p later. repeats_if b.kept.keep t p _ _ later (repeats_alike b a.scrip.now.piece a b.kept.keep t p q.target q.sign taken.sign);
+      number = if_kept b.kept.keep _ (λ r. r.entry.number ≡ b.count) (λ keeps. refl);
+      reply = if_kept b.kept.keep _ (IsReply (h ++ accept_entry b.time q.target a ∷ [])) (λ keeps. reply_new st q a taken.piece ready most short brings);
       takings = omega (arith, taken.price);
       terms = refl;
       upgrades = refl;

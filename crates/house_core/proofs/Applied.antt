@@ -130,7 +130,7 @@ says_command {b = b} {h = h} st e bytes command at kind goes len =
       paid = still.piece;
       handed = still.handed h;
       series = tt;
-      repeats = still.repeats;
+      repeats = λ t q later. still.repeats b.kept.keep t q;
       number = tt;
       reply = tt;
       takings = still.price;

@@ -1,10 +1,12 @@
 -- What was authorized, by the column of the answer that it belongs to.
-use Rattle.std.proofs.Common.{◌≡◌, ◌≤◌, ◌^◌, ℕ, false, List, [], ◌∷◌, ◌++◌, length, refl, sym, ap, subst, arith}
+use Rattle.std.proofs.Common.{◌≡◌, ◌<◌, ◌≤◌, ◌^◌, ℕ, Bool, true, false, cond, eqb, None, Some, List, [], ◌∷◌, ◌++◌, length, refl, sym, ap, subst, arith}
+use Rattle.std.specs.Prelude.{MatchOption}
+use Rattle.std.proofs.lemmas.Bool.{ne_eqb}
 use Rattle.mc_records.specs.declared.limits.Limits.{Limits}
 use Rattle.mc_records.specs.Entry.{Entry, payload}
 use Rattle.mc_records.specs.Requests.{Asked}
 use Rattle.mc_records.specs.Sizes.{tail_bytes}
-use Rattle.kept_replies.specs.Kept.{KeptReply}
+use Rattle.kept_replies.specs.Kept.{KeptReply, KeptView}
 use Rattle.ledger_model.specs.Histories.{History}
 use Rattle.ledger_model.specs.Goods.{is_goods_of}
 use Rattle.ledger_model.specs.Sums.{price_paid}
@@ -17,14 +19,14 @@ use Rattle.house_state.specs.declared.verdict.Authorized.TheVariants as by
 use Rattle.house_state.specs.Learning.{ByHouse, ByTrade, MayLearn}
 use Rattle.house_state.specs.Trade.{OfGoods, NamesInForce}
 use Rattle.house_core.specs.Tallies.{change_given}
-use Rattle.house_state.specs.HouseState.{HouseStateView, IsAsBefore, IsDrawn, series_now, kept_entry, kept_draw}
+use Rattle.house_state.specs.HouseState.{HouseStateView, kept_if, IsKeptAs, IsKeptToo, IsAsBefore, IsDrawn, series_now, kept_entry, kept_draw}
 use Rattle.house_state.specs.LiveWindows.{AreUsed}
 use Rattle.house_state.specs.Representation.{StateRepresents}
 use Rattle.house_core.specs.House.{AskedFor}
 use Rattle.house_state.specs.Verdicts.{draw_entry, authorized_entry, payload_of, price_of, change_of, fresh_of, IsDrawReady, IsOrdered, MayCommit, IsOfNew, OfDeed, BringsAs, IsCommitted, AreUsedFor}
 use Rattle.house_core.proofs.Accepting.{as_it_was, ready_as_before, stands_taken}
 use Rattle.house_core.proofs.Contents.{held_by}
-use Rattle.house_core.proofs.Entered.{takes_follow, stands_more}
+use Rattle.house_core.proofs.Entered.{keep_stays, takes_follow, stands_more}
 use Rattle.house_core.proofs.DrawSays.{says_draw}
 use Rattle.house_core.proofs.HouseDisk.{asked_for}
 use Rattle.house_core.proofs.TallyLaws.{change_is}
@@ -91,13 +93,20 @@ abbrev pub kept_of : HouseStateView → Asked → Authorized → KeptReply
 kept_of b q (by.Scrip a) = record { asked = q; entry = kept_entry b a.scrip.now.piece a }
 kept_of b q (by.Draw d) = record { asked = without_scrip q; entry = kept_draw b d }
 
-pub replies_committed : (old new : HouseStateView) (q : Asked) (a : Authorized) → IsCommitted old new q a → new.kept.replies ≡ old.kept.replies ++ kept_of old q a ∷ []
-replies_committed old new q (by.Scrip a) is = is.kept.replies
-replies_committed old new q (by.Draw d) is = is.kept.replies
+kept_too : (old new : KeptView) (r : KeptReply) → 0 < old.keep → MatchOption (kept_if old.keep r) (IsKeptAs old new) (IsKeptToo old new) → IsKeptToo old new r
+kept_too old new r some is = go (eqb old.keep 0) (ne_eqb old.keep 0 (λ e. omega (arith, e, some))) is
+  where
+    go : (b : Bool) → b ≡ false → MatchOption (cond b None (Some r)) (IsKeptAs old new) (IsKeptToo old new) → IsKeptToo old new r
+    go true not_none is = absurd cc
+    go false not_none is = is
+
+pub replies_committed : (old new : HouseStateView) (q : Asked) (a : Authorized) → 0 < old.kept.keep → IsCommitted old new q a → new.kept.replies ≡ old.kept.replies ++ kept_of old q a ∷ []
+replies_committed old new q (by.Scrip a) some is = (kept_too old.kept new.kept (kept_of old q (by.Scrip a)) some is.kept).replies
+replies_committed old new q (by.Draw d) some is = (kept_too old.kept new.kept (kept_of old q (by.Draw d)) some is.kept).replies
 
 pub keep_committed : (old new : HouseStateView) (q : Asked) (a : Authorized) → IsCommitted old new q a → new.kept.keep ≡ old.kept.keep
-keep_committed old new q (by.Scrip a) is = is.kept.keep
-keep_committed old new q (by.Draw d) is = is.kept.keep
+keep_committed old new q (by.Scrip a) is = keep_stays old.kept new.kept _ is.kept
+keep_committed old new q (by.Draw d) is = keep_stays old.kept new.kept _ is.kept
 
 pub kept_held : (b : HouseStateView) (q : Asked) (P : ℕ → Type 0) (a : Authorized) → OfDeed (OfGoods P) a → OfGoods P (kept_of b q a).entry.deed
 kept_held b q P (by.Scrip a) held = held

@@ -82,6 +82,7 @@ pub contents_as_before : {T : Type 0} (trade : T → TradeView) (b c : BenchView
     → ((n : ℕ) → (trade b.trade).holds n → (trade c.trade).holds n) → HasContents trade c h
 contents_as_before trade b c h has keep same keeps = record {
   keep = has.keep ∙ sym keep;
+  some = subst (λ (n : ℕ). 0 < n) (sym keep) has.some;
   in_force = subst (All (IsInForceFor h)) (sym same) has.in_force;
   held = subst (All (λ r. OfGoods (trade c.trade).holds r.entry.deed)) (sym same)
       (All-weaker (λ r. OfGoods (trade b.trade).holds r.entry.deed) (λ r. OfGoods (trade c.trade).holds r.entry.deed) (λ r. held_by (trade b.trade).holds (trade c.trade).holds keeps r.entry.deed) b.state.kept.replies has.held);
@@ -96,6 +97,7 @@ contents_taken trade b c h e r has quiet stays keep more keeps held in_force =
     let still = All-weaker (λ x. OfGoods (trade b.trade).holds x.entry.deed) (λ x. OfGoods (trade c.trade).holds x.entry.deed) (λ x. held_by (trade b.trade).holds (trade c.trade).holds keeps x.entry.deed) b.state.kept.replies has.held in
     record {
       keep = stays ∙ has.keep ∙ sym keep;
+      some = subst (λ (n : ℕ). 0 < n) (sym keep) has.some;
       in_force = subst (All (IsInForceFor (h ++ e ∷ []))) (sym more) (All-push (IsInForceFor (h ++ e ∷ [])) b.state.kept.replies r later (new_in_force h e r.entry.number quiet r.entry.deed in_force));
       held = subst (All (λ x. OfGoods (trade c.trade).holds x.entry.deed)) (sym more) (All-push (λ x. OfGoods (trade c.trade).holds x.entry.deed) b.state.kept.replies r still (held_by (trade b.trade).holds (trade c.trade).holds keeps r.entry.deed held));
     }
@@ -140,14 +142,16 @@ contents_applied trade b c h e has replies stays keep same keeps =
     let still = contents_as_before trade b c h has keep same keeps in
     record {
       keep = stays ∙ still.keep;
+      some = still.some;
       in_force = subst (All (IsInForceFor (h ++ e ∷ []))) (sym same)
           (λ k d lt. in_force_by h e (get_or b.state.kept.replies k d).entry.number (replies k d lt).within (get_or b.state.kept.replies k d).entry.deed (has.in_force k d lt));
       held = still.held;
     }
 
-pub contents_of_none : {T : Type 0} (trade : T → TradeView) (b : BenchView T) (h : History) → keeping h ≡ b.state.kept.keep → b.state.kept.replies ≡ [] → HasContents trade b h
-contents_of_none trade b h keep none = record {
+pub contents_of_none : {T : Type 0} (trade : T → TradeView) (b : BenchView T) (h : History) → keeping h ≡ b.state.kept.keep → 0 < b.state.kept.keep → b.state.kept.replies ≡ [] → HasContents trade b h
+contents_of_none trade b h keep some none = record {
   keep = keep;
+  some = some;
   in_force = subst (All (IsInForceFor h)) (sym none) (All-nil (IsInForceFor h));
   held = subst (All (λ r. OfGoods (trade b.trade).holds r.entry.deed)) (sym none) (All-nil (λ r. OfGoods (trade b.trade).holds r.entry.deed));
 }

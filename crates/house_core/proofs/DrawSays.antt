@@ -28,7 +28,8 @@ use Rattle.house_state.specs.Trade.{brought_by, piece_brought}
 use Rattle.house_state.specs.Representation.{StateRepresents, IsReply, brought_then, kept_reply}
 use Rattle.house_state.specs.Verdicts.{draw_entry, IsDrawReady, IsOrdered}
 use Rattle.house_core.proofs.Replied.{IsOwn, next_is_own, own_end_is, own_text_is, brought_new}
-use Rattle.house_core.proofs.Entered.{Says}
+use Rattle.house_state.proofs.Entering.{if_kept}
+use Rattle.house_core.proofs.Entered.{Says, repeats_if}
 use Rattle.house_core.proofs.AcceptSays.{swap_and}
 
 -- ---- the piece
@@ -134,9 +135,9 @@ says_draw {b = b} {h = h} st q d ready ordered limits takes short =
       paid = refl;
       handed = drawn_is st q.target d ordered own;
       series = own.series;
-      repeats = λ keep t p. repeats_alike b d q keep t p (sign_is h b.time limits q d takes);
-      number = refl;
-      reply = reply_drawn st q d ordered own;
+      repeats = λ t p later. repeats_if b.kept.keep t p _ _ later (repeats_alike b d q b.kept.keep t p (sign_is h b.time limits q d takes));
+      number = if_kept b.kept.keep _ (λ r. r.entry.number ≡ b.count) (λ keeps. refl);
+      reply = if_kept b.kept.keep _ (IsReply (h ++ draw_entry b.time q.target d ∷ [])) (λ keeps. reply_drawn st q d ordered own);
       takings = refl;
       terms = refl;
       upgrades = refl;

@@ -1,9 +1,9 @@
 -- What the state keeps after one more entry says what the longer history says.
-use Rattle.std.proofs.Common.{◌≡◌, ℕ, ◌+◌, ◌<◌, ◌≤◌, ◌^◌, Bool, true, false, not, cond, List, [], ◌∷◌, ◌++◌, length, filter, find, Option, Some, None, refl, sym, ap, ap₂, ◌∙◌, arith, eqb, inl, inr, length-append, All, subst}
+use Rattle.std.proofs.Common.{◌≡◌, ℕ, ◌+◌, ◌<◌, ◌≤◌, ◌^◌, Bool, true, false, not, cond, List, [], ◌∷◌, ◌++◌, length, filter, find, Option, Some, None, refl, sym, ap, ap₂, ◌∙◌, arith, eqb, ltb, inl, inr, length-append, All, subst}
 use Rattle.std.specs.Prelude.{◌&&◌, ◌||◌, ◌==◌, max, option_map, option_to_list, unwrap_or, position, count_by, MatchOption, IfSome}
 use Rattle.std.specs.Option.{option_or}
 use Rattle.std.specs.List.{list_any, cons_option, position_or_len}
-use Rattle.std.proofs.lemmas.Bool.{lt-ltb, le-ltb, eq-eqb, cases_lt}
+use Rattle.std.proofs.lemmas.Bool.{lt-ltb, le-ltb, eq-eqb, eqb-true, cases_lt}
 use Rattle.std.proofs.lemmas.List.Elements.{filter-append, filter_map-append, All-push, All-weaker}
 use Rattle.std.proofs.lemmas.List.Folds.{find-append, list_any-append, position_or_len_push}
 use Rattle.std.proofs.lemmas.List.Sums.{sum_by-append}
@@ -32,7 +32,7 @@ use Rattle.ledger_model.specs.Lawful.{MayFollow, IsAllowed, request_of, draw_req
 use Rattle.ledger_model.proofs.AcceptLaws.{accepted_snoc}
 use Rattle.ledger_model.proofs.SerialLaws.{own_out_snoc, minted_snoc, count-append}
 use Rattle.ledger_model.proofs.FollowLaws.{may_follow, longer_lawful, size_snoc}
-use Rattle.house_state.specs.HouseState.{HouseStateView, ended_by, series_now, at_series, Growth, IsGrown, IsMarkedToo, IsKeptToo, count_handed, worth_handed, worth_redeemed}
+use Rattle.house_state.specs.HouseState.{HouseStateView, ended_by, series_now, at_series, kept_if, Growth, IsGrown, IsMarkedToo, IsKeptAs, IsKeptToo, count_handed, worth_handed, worth_redeemed}
 use Rattle.house_state.specs.Representation.{StateRepresents, IsReply, has_ended, of_series}
 use Rattle.house_state.proofs.EndLaws.{ended_kept}
 use Rattle.house_core.proofs.FirstEntry.{same_house, own_terms_stay}
@@ -101,7 +101,7 @@ pub record Says (old : HouseStateView) (h : History) (e : Entry) (g : Growth) : 
   pub paid : accepted_piece e ≡ g.paid
   pub handed : handed_piece h e ≡ g.handed
   pub series : IfSome g.handed (λ p. series_of p.id ≡ series_now old)
-  pub repeats : (keep t : ℕ) (q : Asked) → is_repeat keep t q e ≡ is_repeat_of keep t q g.kept
+  pub repeats : (t : ℕ) (q : Asked) → old.time ≤ t → is_repeat old.kept.keep t q e ≡ is_repeat_of old.kept.keep t q g.kept
   pub number : IfSome g.kept (λ r. r.entry.number ≡ old.count)
   pub reply : IfSome g.kept (IsReply (h ++ e ∷ []))
   pub takings : price_paid e ≡ g.takings
@@ -110,6 +110,20 @@ pub record Says (old : HouseStateView) (h : History) (e : Entry) (g : Growth) : 
   pub minted : (s : ℕ) → in_series (minted_pieces h e) s ≡ g.minted s
   pub switches : is_switch e ≡ g.switches
   pub payload : length (payload e) ≡ g.bytes
+
+and_false : (b : Bool) → (b && false) ≡ false
+and_false true = refl
+and_false false = refl
+
+-- an entry is a repeat as its reply says, where it is kept, and no repeat any more where it is not
+pub repeats_if : (keep t : ℕ) (p : Asked) (r : KeptReply) (b : Bool) → r.entry.moment ≤ t → b ≡ (is_same_request r.asked p && is_in_time keep t r) → b ≡ is_repeat_of keep t p (kept_if keep r)
+repeats_if keep t p r b passed alike = go (eqb keep 0) refl
+  where
+    go : (z : Bool) → eqb keep 0 ≡ z → b ≡ is_repeat_of keep t p (cond z None (Some r))
+    go true none =
+        let over : ltb t (r.entry.moment + keep) ≡ false = le-ltb t (r.entry.moment + keep) (omega (arith, passed, eqb-true keep 0 none)) in
+        alike ∙ ap (λ (x : Bool). is_same_request r.asked p && x) over ∙ and_false (is_same_request r.asked p)
+    go false some = alike
 
 -- ---- sums and counts at one more piece
 
@@ -159,8 +173,8 @@ marked_more : (old new : List WindowView) (o : Option Scrip) (id : ℕ) → Matc
 marked_more old new None id is = or_end (is_marked old id) ∙ ap (λ (ws : List WindowView). is_marked ws id) (sym is)
 marked_more old new (Some p) id is = ap (λ (b : Bool). is_marked old id || b) (or_end (eqb p.id id)) ∙ sym (is.marked id)
 
-keep_stays : (old new : KeptView) (o : Option KeptReply) → MatchOption o (new ≡ old) (IsKeptToo old new) → new.keep ≡ old.keep
-keep_stays old new None is = ap (λ (k : KeptView). k.keep) is
+pub keep_stays : (old new : KeptView) (o : Option KeptReply) → MatchOption o (IsKeptAs old new) (IsKeptToo old new) → new.keep ≡ old.keep
+keep_stays old new None is = is.keep
 keep_stays old new (Some r) is = is.keep
 
 or_none : {X : Type 0} (o : Option X) → option_or o None ≡ o
@@ -170,9 +184,11 @@ or_none (Some x) = refl
 abbrev number_found : KeptView → ℕ → Asked → Option ℕ
 number_found kept t q = option_map (λ e. e.number) (found kept t q)
 
-found_more : (old new : KeptView) (o : Option KeptReply) (count t : ℕ) (q : Asked) → IfSome o (λ r. r.entry.number ≡ count) → MatchOption o (new ≡ old) (IsKeptToo old new)
+found_more : (old new : KeptView) (o : Option KeptReply) (count t : ℕ) (q : Asked) → IfSome o (λ r. r.entry.number ≡ count) → MatchOption o (IsKeptAs old new) (IsKeptToo old new)
     → option_or (number_found old t q) (cond (is_repeat_of old.keep t q o) (Some count) None) ≡ number_found new t q
-found_more old new None count t q number is = or_none (number_found old t q) ∙ ap (λ (k : KeptView). number_found k t q) (sym is)
+found_more old new None count t q number is =
+    let numbers : Option KeptReply → Option ℕ = λ o. option_map (λ (x : KeptEntry). x.number) (option_map (λ (x : KeptReply). x.entry) o) in
+    or_none (number_found old t q) ∙ ap₂ (λ (k : ℕ) (rs : List KeptReply). numbers (find (λ x. is_same_request x.asked q && is_in_time k t x) rs)) (sym is.keep) (sym is.replies)
 found_more old new (Some r) count t q number is =
     let asks : KeptReply → Bool = λ x. is_same_request x.asked q && is_in_time old.keep t x in
     let numbers : Option KeptReply → Option ℕ = λ o. option_map (λ (x : KeptEntry). x.number) (option_map (λ (x : KeptReply). x.entry) o) in
@@ -181,8 +197,8 @@ found_more old new (Some r) count t q number is =
     ∙ ap numbers (sym (find-append asks old.replies (r ∷ [])))
     ∙ ap₂ (λ (k : ℕ) (rs : List KeptReply). numbers (find (λ x. is_same_request x.asked q && is_in_time k t x) rs)) (sym is.keep) (sym is.replies)
 
-replies_more : (old new : KeptView) (o : Option KeptReply) (P : KeptReply → Type 0) → IfSome o P → MatchOption o (new ≡ old) (IsKeptToo old new) → All P old.replies → All P new.replies
-replies_more old new None P reply is all = subst (λ (k : KeptView). All P k.replies) (sym is) all
+replies_more : (old new : KeptView) (o : Option KeptReply) (P : KeptReply → Type 0) → IfSome o P → MatchOption o (IsKeptAs old new) (IsKeptToo old new) → All P old.replies → All P new.replies
+replies_more old new None P reply is all = subst (All P) (sym is.replies) all
 replies_more old new (Some r) P reply is all = subst (All P) (sym is.replies) (All-push P old.replies r all reply)
 
 -- ---- sums and counts of the pieces
@@ -237,7 +253,7 @@ stands_more {old = old} {new = new} {h = h} st e g says may is =
           ∙ ap (λ (b : Bool). b || list_any (λ p. p.id == id) (cons_option g.paid [])) (st.spent id before) ∙ marked_more old.spent new.spent g.paid id is.spent;
       again = λ t q later. ap (λ (k : ℕ). position (is_repeat k t q) (h ++ e ∷ [])) (keep_stays old.kept new.kept g.kept is.kept)
           ∙ position_snoc (is_repeat old.kept.keep t q) h e
-          ∙ ap₂ (λ (o : Option ℕ) (b : Bool). option_or o (cond b (Some (length h)) None)) (st.again t q (omega (arith, later, is.time))) (says.repeats old.kept.keep t q)
+          ∙ ap₂ (λ (o : Option ℕ) (b : Bool). option_or o (cond b (Some (length h)) None)) (st.again t q (omega (arith, later, is.time))) (says.repeats t q (omega (arith, later, is.time)))
           ∙ ap (λ (n : ℕ). option_or (number_found old.kept t q) (cond (is_repeat_of old.kept.keep t q g.kept) (Some n) None)) st.counted
           ∙ found_more old.kept new.kept g.kept old.count t q says.number is.kept;
       replies = replies_more old.kept new.kept g.kept (IsReply (h ++ e ∷ [])) says.reply is.kept (All-weaker (IsReply h) (IsReply (h ++ e ∷ [])) (λ r. reply_kept st e r) old.kept.replies st.replies);

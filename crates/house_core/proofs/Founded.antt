@@ -1,5 +1,5 @@
 -- The state of a house that was just founded represents its one entry.
-use Rattle.std.proofs.Common.{◌≡◌, ℕ, zero, suc, ◌≤◌, List, [], ◌∷◌, Option, Some, None, refl, sym, ap, ◌∙◌, arith}
+use Rattle.std.proofs.Common.{◌≡◌, ℕ, zero, suc, ◌<◌, ◌≤◌, List, [], ◌∷◌, Option, Some, None, refl, sym, ap, ◌∙◌, arith}
 use Rattle.std.proofs.lemmas.Bool.{eq-eqb}
 use Rattle.mc_base.specs.declared.amount.TheConstants.Amount.{MOST}
 use Rattle.scrip_form.specs.Issuing.{Issuing}
@@ -89,10 +89,17 @@ pub keeps_founded : (b : HouseStateView) (limits : Limits) (e : Entry) → IsSta
 keeps_founded b limits (Site m kind name (Some h)) is = sym is.keep
 keeps_founded b limits e is = absurd is
 
+pub some_founded : (b : HouseStateView) (limits : Limits) (e : Entry) → FoundsHouse e → IsStateOf b limits e → 0 < b.kept.keep
+some_founded b limits (Site m zero name (Some h)) founds is = omega (arith, is.keep, founds.house.keep)
+some_founded b limits (Site m (suc zero) name (Some h)) founds is = omega (arith, is.keep, founds.house.keep)
+some_founded b limits (Site m (suc (suc zero)) name (Some h)) founds is = absurd founds.house
+some_founded b limits (Site m (suc (suc (suc k))) name (Some h)) founds is = absurd founds.house
+some_founded b limits e founds is = absurd is
+
 -- what is kept for other seconds says as much, where there is no reply yet
-brief_site : {b : HouseStateView} (m kind : ℕ) (name : List ℕ) (h : House) (kept : KeptView) → StateRepresents b (Site m kind name (Some h) ∷ []) → kept.replies ≡ []
+site_keeping : {b : HouseStateView} (m kind : ℕ) (name : List ℕ) (h : House) (kept : KeptView) → StateRepresents b (Site m kind name (Some h) ∷ []) → kept.replies ≡ []
     → StateRepresents (record b { kept = kept }) (Site m kind name (Some h) ∷ [])
-brief_site m kind name h kept st none = record {
+site_keeping m kind name h kept st none = record {
   name = st.name;
   clear = st.clear;
   terms = st.terms;
@@ -114,10 +121,10 @@ brief_site m kind name h kept st none = record {
   lawful = st.lawful;
 }
 
-pub stands_briefly : {b : HouseStateView} (e : Entry) (kept : KeptView) → FoundsHouse e → StateRepresents b (e ∷ []) → kept.replies ≡ [] → StateRepresents (record b { kept = kept }) (e ∷ [])
-stands_briefly (Site m kind name (Some h)) kept founds st none = brief_site m kind name h kept st none
-stands_briefly (Site m kind name None) kept founds st none = absurd founds
-stands_briefly e kept founds st none = absurd founds
+pub stands_keeping : {b : HouseStateView} (e : Entry) (kept : KeptView) → FoundsHouse e → StateRepresents b (e ∷ []) → kept.replies ≡ [] → StateRepresents (record b { kept = kept }) (e ∷ [])
+stands_keeping (Site m kind name (Some h)) kept founds st none = site_keeping m kind name h kept st none
+stands_keeping (Site m kind name None) kept founds st none = absurd founds
+stands_keeping e kept founds st none = absurd founds
 
 -- no identity is spent
 pub none_spent : (b : HouseStateView) (limits : Limits) (e : Entry) → IsStateOf b limits e → b.spent ≡ []

@@ -119,7 +119,7 @@ contents_later {T = T} trade b c h t from has keep replies least none keeps =
     λ P all. subst (All P) (sym replies) (All-filter (is_in_time b.state.kept.keep t) P b.state.kept.replies all) in
     let in_force = of_rest (IsInForceFor h) has.in_force in
     let held = of_rest (λ r. OfGoods (trade b.trade).holds r.entry.deed) has.held in
-    record { keep = has.keep ∙ sym keep; in_force = in_force; held = all_held (trade b.trade).holds (trade c.trade).holds h from c.state.kept.replies keeps least none in_force held }
+    record { keep = has.keep ∙ sym keep; some = subst (λ (n : ℕ). 0 < n) (sym keep) has.some; in_force = in_force; held = all_held (trade b.trade).holds (trade c.trade).holds h from c.state.kept.replies keeps least none in_force held }
 
 -- the same, where the trade forgets nothing
 pub contents_raised : {T : Type 0} (trade : T → TradeView) (b c : BenchView T) (h : History) (t : ℕ)

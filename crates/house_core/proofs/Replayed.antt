@@ -1,5 +1,7 @@
 -- What comes of an entry that is read from a journal.
-use Rattle.std.proofs.Common.{◌≡◌, ℕ, List, Option, Some, Err, sym, ◌∙◌}
+use Rattle.std.proofs.Common.{◌≡◌, ℕ, List, Option, Some, Result, Err, option_map, sym, ap, ◌∙◌}
+use Rattle.std.specs.Result.{result_ok}
+use Rattle.scrip_form.specs.Scrip.{Scrip}
 use Rattle.mc_records.specs.declared.limits.Limits.{Limits}
 use Rattle.mc_records.specs.Entry.{Deed, Entry, Accept, Draw}
 use Rattle.mc_records.specs.Requests.{Asked}
@@ -14,13 +16,14 @@ use Rattle.house_state.specs.declared.verdict.Authorized.TheVariants as by
 use Rattle.scrip_journal.specs.declared.fault.LearnFault.{LearnFault}
 use Rattle.scrip_journal.specs.declared.fault.LearnFault.TheVariants as ends
 use Rattle.house_core.specs.Bench.{Follows, Replays}
+use Rattle.house_core.specs.Spent.{told_of, spent_by, spent_with}
 use Rattle.house_state.specs.Verdicts.{accept_entry, draw_entry, authorized_entry, IsOfNew, IsSaid, SaysDraw}
 use Rattle.house_state.specs.HouseState.{HouseStateView}
 use Rattle.house_state.specs.Trade.{TradeView}
 
 -- an entry that does not follow is not replayed
 pub follow_fails : {T : Type 0} (trade : T → TradeView) (passes : History → Entry → Type 0) (b : BenchView T) (limits : Limits) (h : History) (e : Entry) (end : LearnFault)
-    → Follows trade passes b limits h e (Err end) → Replays trade passes b limits h e (Err end)
+    → Follows trade passes b limits h e (Err end) → Replays {X = Unit {0}} trade passes b limits h e (Err end)
 follow_fails trade passes b limits h e ends.Unlawful f = f.0
 follow_fails trade passes b limits h e ends.NoMemory f = tt
 
@@ -41,6 +44,15 @@ said_entry b q t other goal (by.Scrip a) sign price change deed new text at said
     let d = said.deed in
     cc (same, at, s, p, c, d)
 said_entry b q t other goal (by.Draw d) sign price change deed new text at said = absurd said
+
+-- the piece that it spends is that of its text
+pub spent_is : (b : HouseStateView) (q : Asked) (other : List ℕ) (a : Authorized) (sign : Option (List ℕ)) (price : ℕ) (change : Option ℕ) (deed : Deed) → IsOfNew b q a → q.scrip ≡ Some other → IsSaid a sign price change deed
+    → spent_with a ≡ spent_by other
+spent_is b q other (by.Scrip a) sign price change deed new text said =
+    let read = read_ok q.scrip a.scrip.now (sym new.0) in
+    let same : a.scrip.now.text ≡ other = cc (read.0, text) in
+    sym (ap spent_by (sym same) ∙ ap (λ (r : Result (Scrip × List ℕ) ℕ). option_map told_of (option_map (λ x. x.0) (result_ok r))) read.1)
+spent_is b q other (by.Draw d) sign price change deed new text said = absurd said
 
 pub is_said : (t u : ℕ) (other target goal : List ℕ) (a : Authorized) (sign : Option (List ℕ)) (price : ℕ) (change : Option ℕ) (deed : Deed) (answer : Answer)
     → answers.Take (authorized_entry t target a) ≡ answer → answer ≡ answers.Take (Accept u other goal sign price change deed) → IsSaid a sign price change deed

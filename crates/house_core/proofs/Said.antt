@@ -70,7 +70,7 @@ counted_beside trade P b tally came = record {
   history = came.history;
   house = record {
     represents = record { state = came.house.represents.state; learned = came.house.represents.learned; of_kind = came.house.represents.of_kind };
-    contents = record { keep = came.house.contents.keep; in_force = came.house.contents.in_force; held = came.house.contents.held };
+    contents = record { keep = came.house.contents.keep; some = came.house.contents.some; in_force = came.house.contents.in_force; held = came.house.contents.held };
   };
   related = came.related;
 }

@@ -53,9 +53,11 @@ pub record Represents {T : Type 0} (trade : T → TradeView) (b : BenchView T) (
   pub learned : (trade b.trade).represents h
   pub of_kind : site_kind h ≡ Some (trade b.trade).site
 
--- It keeps replies for the keeping time of the history, the trade has what they bring, and no earlier entry replaces it.
+-- It keeps replies for the keeping time of the history, which is some, the trade has what they bring, and no earlier entry
+-- replaces it.
 pub record HasContents {T : Type 0} (trade : T → TradeView) (b : BenchView T) (h : History) : Type 0 where
   pub keep : keeping h ≡ b.state.kept.keep
+  pub some : 0 < b.state.kept.keep
   pub in_force : All (IsInForceFor h) b.state.kept.replies
   pub held : All (λ r. OfGoods (trade b.trade).holds r.entry.deed) b.state.kept.replies
 
@@ -142,7 +144,7 @@ Follows trade passes b limits h e (Err ends.NoMemory) = Represents trade b h
 
 -- Of the next entry of a history: it may follow, and the house represents the history with it, at its
 -- moment; or it may not follow; or there is no memory for it.
-abbrev pub Replays : {T : Type 0} → (T → TradeView) → (History → Entry → Type 0) → BenchView T → Limits → History → Entry → Result (Unit {0}) LearnFault → Type 0
-Replays trade passes b limits h e (Ok u) = MayEnter passes limits h e × Represents trade b (h ++ e ∷ []) × (house_time b ≡ moment_of e)
+abbrev pub Replays : {T X : Type 0} → (T → TradeView) → (History → Entry → Type 0) → BenchView T → Limits → History → Entry → Result X LearnFault → Type 0
+Replays trade passes b limits h e (Ok x) = MayEnter passes limits h e × Represents trade b (h ++ e ∷ []) × (house_time b ≡ moment_of e)
 Replays trade passes b limits h e (Err ends.Unlawful) = MayEnter passes limits h e → ⊥
 Replays trade passes b limits h e (Err ends.NoMemory) = Unit {0}

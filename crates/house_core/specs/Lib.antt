@@ -3,6 +3,7 @@ pub mod HouseView
 pub mod SettledView
 pub mod Session
 pub mod Tallies
+pub mod Spent
 pub mod Bench
 pub mod House
 pub mod Tasks

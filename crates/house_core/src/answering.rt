@@ -40,6 +40,7 @@ impl<T: Trade> Bench<T> {
             (λ s t. Says (answer (raised s reading).history (raised s reading).time (limits_of self.old) q.now) result (raised s reading) t) self.old self.new }
     {
         self.raise(reading);
+        self.state.keep_some();
         let mut tally = self.tally;
         let answered = self.respond(q, &mut tally);
         self.tally = tally;

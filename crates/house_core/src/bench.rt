@@ -1,4 +1,4 @@
-ghost use Rattle.std.specs.Prelude.{◌≡◌, ◌+◌, ◌≤◌, ◌==◌, ℕ, Err, [], ◌∷◌, ◌++◌, MatchResult, OnOk, OnErr, length, max, None, Some, Ok, IfOk, IfErr, IfSome, is_ok};
+ghost use Rattle.std.specs.Prelude.{◌≡◌, ◌+◌, ◌<◌, ◌≤◌, ◌==◌, ℕ, Err, [], ◌∷◌, ◌++◌, MatchResult, OnOk, OnErr, length, max, None, Some, Ok, IfOk, IfErr, IfSome, is_ok};
 ghost use Rattle.mc_records.specs.declared.limits.Limits.{Limits as Bounds};
 ghost use Rattle.mc_records.specs.Limits.{AreInRange};
 ghost use Rattle.mc_records.specs.Chains.{TellsChain};
@@ -94,8 +94,8 @@ impl<T: Trade> Bench<T> {
         }
     }
 
-    /// The same house, but that replies come again within one second alone: for whoever only asks which entries may follow, to
-    /// whom no reply is needed ([`ledger_model::taking_needs_no_replies`]). It has memory for those of one second.
+    /// The same house, but that it keeps no reply: for whoever only asks which entries may follow, to whom none is needed
+    /// ([`ledger_model::taking_needs_no_replies`]).
     pub fn for_reading(
         alloc: Global,
         site: &Record<'_>,
@@ -110,10 +110,14 @@ impl<T: Trade> Bench<T> {
         ensures holds { IfOk result (λ b. Represents T.trade b (entry site.now ∷ [])) }
         ensures time { IfOk result (λ b. house_time b ≡ moment_of (entry site.now)) }
         ensures limits { IfOk result (λ b. limits_of b ≡ limits) }
-        ensures brief { IfOk result (λ b. b.state.kept.keep ≡ 1) }
+        ensures used { IfOk result (λ b. AreUsed (windows_of b)) }
+        ensures tally { IfOk result (λ b. tally_of b ≡ no_tally) }
+        ensures within { IfOk result IsTallied }
+        ensures keep { IfOk result (λ b. b.state.kept.keep ≡ 0) }
+        ensures none { IfOk result (λ b. b.state.kept.replies ≡ []) }
     {
         let mut bench = Bench::new(alloc, site, limits, trade)?;
-        bench.state.keep_briefly();
+        bench.state.keep_none();
         Ok(bench)
     }
 
@@ -208,7 +212,7 @@ impl<T: Trade> Bench<T> {
 
     /// Accepts a request at the house time: enters its entry, and answers the entry's number, from 0. Where
     /// the request comes again it enters nothing, and answers the number of the entry that it repeats.
-    /// The reply of the entry is kept.
+    /// The reply of the entry is kept; a house that kept none keeps them from here on, for one second.
     pub fn accept(&mut self, q: &Request<'_>) -> Result<u64, BenchFault>
         ensures kept { IfOk result (KeepsReply self.new) }
         ensures site { IfErr result FaultIsOfSite }
@@ -223,18 +227,20 @@ impl<T: Trade> Bench<T> {
             → HasContents T.trade self.old h
             → KeepsContents T.trade self.new h (model.answer h (house_time self.old) (limits_of self.old) (asked_of q.now)) result }
     {
+        self.state.keep_some();
         match self.respond(&Presented::of(*q), &mut Tally::none()) {
             Ok(number) => Ok(number.number()),
             Err(fault) => Err(fault),
         }
     }
 
-    /// Accepts a request, as [`Bench::accept`] does, and counts in a tally what is told to it.
+    /// Accepts a request, as [`Bench::accept`] does, where replies are kept, and counts in a tally what is told to it.
     pub(crate) fn respond(
         &mut self,
         q: &Presented<'_>,
         tally: &mut Tally,
     ) -> Result<KeptNumber, BenchFault>
+        requires keeps { 0 < self.old.state.kept.keep }
         ensures within { IsWithin self.old.state.count tally.old
             → IsWithin self.new.state.count tally.new }
         ensures counted { (h : History) → IsHouse T.trade self.old h
@@ -422,7 +428,7 @@ impl<T: Trade> Bench<T> {
         requires brings { (h : History) → (T.trade self.old.trade).represents h
             → site_kind h ≡ Some (T.trade self.old.trade).site
             → BringsAs h q.now.target authorization.now }
-        ensures kept { IfOk result (KeepsReply self.new) }
+        ensures kept { 0 < self.old.state.kept.keep → IfOk result (KeepsReply self.new) }
         ensures time { house_time self.new ≡ house_time self.old }
         ensures limits { limits_of self.new ≡ limits_of self.old }
         ensures tally { tally_of self.new ≡ tally_of self.old }
@@ -485,7 +491,7 @@ impl<T: Trade> Bench<T> {
         requires ready { MayCommit self.old.state q.now.target authorization.now }
         requires trade { (T.trade self.old.trade).has_room (entry r.now) }
         requires state { HasRoomToCommit self.old.state q.now authorization.now }
-        ensures kept { KeepsReply self.new result }
+        ensures kept { 0 < self.old.state.kept.keep → KeepsReply self.new result }
         ensures time { house_time self.new ≡ house_time self.old }
         ensures limits { limits_of self.new ≡ limits_of self.old }
         ensures tally { tally_of self.new ≡ tally_of self.old }

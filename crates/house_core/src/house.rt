@@ -250,6 +250,24 @@ impl<D: Disk, T: Trade> House<D, T> {
             → Ran (D.disk self.journal.disk) (D.disk (outcome_disk result))
             (Leaves (model.answer h (house_time self.bench) (limits_of self.bench) q.now) result h (D.disk self.journal.disk).aside) }
     {
+        let House { journal, mut bench } = self;
+        bench.state.keep_some();
+        House { journal, bench }.respond_kept(q)
+    }
+
+    /// The same, where replies are kept.
+    fn respond_kept(self, q: &Presented<'_>) -> Outcome<D, T, Response>
+        requires keeps { 0 < self.bench.state.kept.keep }
+        requires target { IsTarget q.now.target }
+        ensures back { HandsBack D.disk D.disk_moved (KeepsTime self) self.journal.disk result }
+        ensures site { IfRefused IsOfSite result }
+        ensures kept { IfDone (λ x r. KeepsReply x.bench (number_in r)) result }
+        ensures exact { (h : History) → HouseRepresents D.disk T.trade self h
+            → Responds D.disk T.trade self.journal.disk h (model.answer h (house_time self.bench) (limits_of self.bench) q.now) result }
+        ensures ran { (h : History) → HouseRepresents D.disk T.trade self h
+            → Ran (D.disk self.journal.disk) (D.disk (outcome_disk result))
+            (Leaves (model.answer h (house_time self.bench) (limits_of self.bench) q.now) result h (D.disk self.journal.disk).aside) }
+    {
         let House { journal, bench } = self;
         match evaluate(&bench.state, bench.state.limits(), &bench.trade, q) {
             Ok(authorization) => House { journal, bench }.commit(q, authorization),
@@ -264,6 +282,7 @@ impl<D: Disk, T: Trade> House<D, T> {
 
     /// Commits a request that was evaluated: makes room for its entry, writes it and enters it.
     fn commit(self, q: &Presented<'_>, authorization: Authorized<'_, '_>) -> Outcome<D, T, Response>
+        requires keeps { 0 < self.bench.state.kept.keep }
         requires target { IsTarget q.now.target }
         requires new { IsOfNew self.bench.state q.now authorization }
         requires held { OfDeed (OfGoods (T.trade self.bench.trade).holds) authorization }

@@ -14,8 +14,10 @@ ghost use Rattle.house_state.specs.Verdicts.{IsSaid, SaysDraw};
 ghost use Rattle.house_state.specs.CommandEntries.{IsCommand};
 ghost use Rattle.house_state.specs.HouseState.{size_with};
 ghost use Rattle.house_core.specs.Bench.{Represents, HasContents, Follows, Replays, house_time, limits_of};
+ghost use Rattle.house_core.specs.Spent.{spent_by, spent_in, spent_with};
 
 use crate::bench::{Bench, record_deed};
+use crate::spent::SpentPiece;
 use house_state::{Authorized, Presented, Trade, Unlawful, evaluate, fitted};
 use mc_base::NoMemory;
 use mc_records::{Limits, Record, RecordDeed, Request};
@@ -55,8 +57,9 @@ impl<T: Trade> Bench<T> {
     /// Learns the next entry of a history, as it is read from a journal, which told that a Switch has the chain
     /// of the entries before it. The house time is raised to the entry's moment. `Err` has `Unlawful` exactly
     /// where the entry may not follow those before it, or fails the trade's own test. The house's own limit of
-    /// the journal is not asked: a book above it is lawful. After an `Err` nothing is said of the house.
-    pub fn replay(&mut self, r: &Record<'_>) -> Result<(), LearnFault>
+    /// the journal is not asked: a book above it is lawful. `Ok` tells the piece that the entry spends, where it spends one.
+    /// After an `Err` nothing is said of the house.
+    pub fn replay(&mut self, r: &Record<'_>) -> Result<Option<SpentPiece>, LearnFault>
         requires fits { Fits (entry r.now) }
         ensures limits { limits_of self.new ≡ limits_of self.old }
         ensures exact { (h : History) → Represents T.trade self.old h → house_time self.old ≡ time h
@@ -66,6 +69,7 @@ impl<T: Trade> Bench<T> {
         ensures contents { (h : History) → Represents T.trade self.old h
             → HasContents T.trade self.old h
             → IfOk result (λ u. HasContents T.trade self.new (h ++ entry r.now ∷ [])) }
+        ensures spent { IfOk result (λ p. p ≡ spent_in (entry r.now)) }
     {
         let moment = r.moment();
         if moment.seconds() < self.state.time().seconds() {
@@ -79,7 +83,10 @@ impl<T: Trade> Bench<T> {
                 sign,
                 drawn,
                 ..
-            } => self.replay_draw(target, sign, *drawn),
+            } => {
+                self.replay_draw(target, sign, *drawn)?;
+                Ok(None)
+            }
             Record::Accept {
                 scrip,
                 target,
@@ -89,7 +96,10 @@ impl<T: Trade> Bench<T> {
                 deed,
                 ..
             } => self.replay_accept(scrip, target, sign, *price, *change, deed),
-            _ => self.replay_command(r),
+            _ => {
+                self.replay_command(r)?;
+                Ok(None)
+            }
         }
     }
 
@@ -128,7 +138,7 @@ impl<T: Trade> Bench<T> {
         price: u64,
         change: Option<Id>,
         deed: &RecordDeed,
-    ) -> Result<(), LearnFault>
+    ) -> Result<Option<SpentPiece>, LearnFault>
         ensures limits { limits_of self.new ≡ limits_of self.old }
         ensures exact { (h : History) → Represents T.trade self.old h
             → Replays T.trade T.passes self.new (limits_of self.old) h (Accept (house_time self.old) scrip.now target.now sign.now price change (deed_of deed.now)) result }
@@ -136,6 +146,7 @@ impl<T: Trade> Bench<T> {
             → HasContents T.trade self.old h
             → IfOk result
             (λ u. HasContents T.trade self.new (h ++ Accept (house_time self.old) scrip.now target.now sign.now price change (deed_of deed.now) ∷ [])) }
+        ensures spent { IfOk result (λ p. p ≡ spent_by scrip.now) }
     {
         let digits = digits_of(sign);
         let q = Presented::of(request_for(scrip, target, &digits));
@@ -148,7 +159,7 @@ impl<T: Trade> Bench<T> {
             return Err(LearnFault::Unlawful);
         }
         match self.commit(&q, &authorization) {
-            Ok(_) => Ok(()),
+            Ok(_) => Ok(spent(&authorization)),
             Err(NoMemory) => Err(LearnFault::NoMemory),
         }
     }
@@ -177,6 +188,16 @@ impl<T: Trade> Bench<T> {
             Ok(_) => Ok(()),
             Err(NoMemory) => Err(LearnFault::NoMemory),
         }
+    }
+}
+
+/// The piece that was authorized to be spent. A draw spends none.
+fn spent(authorized: &Authorized<'_, '_>) -> Option<SpentPiece>
+    ensures { result ≡ spent_with authorized.now }
+{
+    match authorized {
+        Authorized::Scrip(a) => Some(SpentPiece::of(&a.scrip.piece())),
+        Authorized::Draw(_) => None,
     }
 }
 

@@ -25,19 +25,17 @@ site_enters passes limits kind (Site m k name house) founds is = record {
 site_enters passes limits kind e founds is = absurd founds
 
 -- why it was not learned
-pub fault_told : {T A : Type 0} (trade : T → TradeView) (passes : Test) (b : BenchView T) (limits : Limits) (holds : A → History → Type 0) (h : History) (e : Entry) (fault : LearnFault)
-    → Replays trade passes b limits h e (Err fault) → Learns (MayEnter passes limits) holds h e (Err fault)
-fault_told trade passes b limits holds h e faults.Unlawful replays = replays
-fault_told trade passes b limits holds h e faults.NoMemory replays = tt
+pub fault_told : {T A : Type 0} (X : Type 0) (trade : T → TradeView) (passes : Test) (b : BenchView T) (limits : Limits) (holds : A → History → Type 0) (h : History) (e : Entry) (fault : LearnFault)
+    → Replays {X = X} trade passes b limits h e (Err fault) → Learns (MayEnter passes limits) holds h e (Err fault)
+fault_told X trade passes b limits holds h e faults.Unlawful replays = replays
+fault_told X trade passes b limits holds h e faults.NoMemory replays = tt
 
-pub learned : {T : Type 0} (trade : T → TradeView) (passes : Test) (b : BenchView T) (own limits : Limits) (h : History) (e : Entry) (result : Result (Unit {0}) LearnFault) → own ≡ limits
-    → Replays trade passes b own h e result → IfOk result (λ u. HasContents trade b (h ++ e ∷ [])) → Learns (MayEnter passes limits) (λ u. StandsAt trade b) h e result
-learned trade passes b own limits h e (Ok u) same replays contents = (
+pub learned : {T X : Type 0} (trade : T → TradeView) (passes : Test) (b : BenchView T) (own limits : Limits) (h : History) (e : Entry) (x : X) → own ≡ limits
+    → Replays {X = X} trade passes b own h e (Ok x) → HasContents trade b (h ++ e ∷ []) → Learns (MayEnter passes limits) (λ (u : Unit {0}). StandsAt trade b) h e (Ok tt)
+learned trade passes b own limits h e x same replays contents = (
   subst (λ (l : Limits). MayEnter passes l h e) same replays.0,
   record {
     house = record { represents = replays.1; contents = contents };
     time' = omega (arith, replays.2, time_snoc h e, replays.0.follows.in_order);
   },
 )
-learned trade passes b own limits h e (Err fault) same replays contents =
-    fault_told {A = Unit {0}} trade passes b limits (λ u. StandsAt trade b) h e fault (subst (λ (l : Limits). Replays trade passes b l h e (Err fault)) same replays)

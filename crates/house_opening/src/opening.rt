@@ -51,7 +51,10 @@ impl<T: Trade> Opener for HouseOpener<T> {
     }
 
     fn learn(bench: &mut Bench<T>, r: &Record<'_>) -> Result<(), LearnFault> {
-        bench.replay(r)
+        match bench.replay(r) {
+            Ok(_) => Ok(()),
+            Err(fault) => Err(fault),
+        }
     }
 
     ghost site_first = { λ o. site_first T.passes o.limits };

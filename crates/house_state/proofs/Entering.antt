@@ -11,13 +11,13 @@ use Rattle.mc_records.specs.declared.limits.Limits.{Limits}
 use Rattle.mc_records.specs.Requests.{Asked}
 use Rattle.ledger_model.specs.declared.upgraded.Upgraded.{Upgraded}
 use Rattle.kept_replies.specs.Requests.{is_same_request}
-use Rattle.kept_replies.specs.Kept.{KeptReply, KeptView, is_in_time, has_request, has_number, inserted, change_size}
+use Rattle.kept_replies.specs.Kept.{KeptReply, KeptView, is_in_time, has_request, has_number, inserted, kept_with, change_size}
 use Rattle.kept_replies.proofs.InsertLaws.{inserted_last}
 use Rattle.change_issue.specs.Registers.{Register, count_in, issued_in, redeemed_in, next_in}
 use Rattle.change_issue.specs.IssuedPieces.{issued_piece}
 use Rattle.house_state.specs.declared.verdict.Authorization.{Authorization}
 use Rattle.spent_windows.specs.Windows.{WindowView, is_marked, end_of, later_than}
-use Rattle.house_state.specs.HouseState.{HouseStateView, end_by, IsSound, Growth, IsGrown, IsMarkedToo, IsKeptToo, IsEntered, size_with, in_version, series_now, change_made, at_series, count_handed, worth_handed, worth_redeemed, change_count, change_worth, accept_growth}
+use Rattle.house_state.specs.HouseState.{HouseStateView, end_by, IsSound, Growth, IsGrown, IsMarkedToo, kept_if, IsKeptAs, IsKeptToo, IsEntered, size_with, in_version, series_now, change_made, at_series, count_handed, worth_handed, worth_redeemed, change_count, change_worth, accept_growth}
 use Rattle.house_state.proofs.EndLaws.{end_kept, EndInTime, ends_dropped}
 
 -- ---- a later time
@@ -30,7 +30,6 @@ sound_later b t spent kept sound dropped keep replies = record {
   most = sound.most;
   counted = sound.counted;
   sized = sound.sized;
-  keeps = subst (λ (n : ℕ). 0 < n) (sym keep) sound.keeps;
   numbers = subst (All (λ r. r.entry.number < b.count)) (sym replies) (All-filter (is_in_time b.kept.keep t) (λ r. r.entry.number < b.count) b.kept.replies sound.numbers);
   in_time = subst (λ (n : ℕ). All (λ r. IsTrue (is_in_time n t r)) kept.replies) (sym keep) (subst (All (λ r. IsTrue (is_in_time b.kept.keep t r))) (sym replies) (filter_passes (is_in_time b.kept.keep t) b.kept.replies));
   redeemed = sound.redeemed;
@@ -54,7 +53,6 @@ sound_grown b terms room upgrades places own size bytes switched sound most rede
   most = most ∙ sound.most;
   counted = omega (arith, grown, sound.counted);
   sized = omega (arith, grown, fits);
-  keeps = sound.keeps;
   numbers = All-weaker (λ r. r.entry.number < b.count) (λ r. r.entry.number < b.count + 1) (λ r lt. omega (arith, lt)) b.kept.replies sound.numbers;
   in_time = sound.in_time;
   redeemed = λ s. omega (arith, redeemed s, sound.redeemed s);
@@ -97,6 +95,26 @@ no_number n (r ∷ rs) all =
     let other : eqb r.entry.number n ≡ false = grind (arith, below) in
     rw (other, more) refl
 
+-- what holds of a reply that is kept
+pub if_kept : (keep : ℕ) (r : KeptReply) (P : KeptReply → Type 0) → (0 < keep → P r) → IfSome (kept_if keep r) P
+if_kept keep r P holds = go (eqb keep 0) (λ is. positive keep is)
+  where
+    positive : (n : ℕ) → eqb n 0 ≡ false → 0 < n
+    positive n is = grind (arith, is)
+
+    go : (b : Bool) → (b ≡ false → 0 < keep) → IfSome (cond b None (Some r)) P
+    go true some = tt
+    go false some = holds (some refl)
+
+-- what was kept or not of one reply
+pub kept_so : (old new : KeptView) (made r : KeptReply) → new.keep ≡ old.keep → new.replies ≡ kept_with old.keep made old.replies → inserted made old.replies ≡ old.replies ++ r ∷ []
+    → MatchOption (kept_if old.keep r) (IsKeptAs old new) (IsKeptToo old new)
+kept_so old new made r keep is last = go (eqb old.keep 0) is
+  where
+    go : (b : Bool) → new.replies ≡ cond b old.replies (inserted made old.replies) → MatchOption (cond b None (Some r)) (IsKeptAs old new) (IsKeptToo old new)
+    go true replies = record { keep = keep; replies = replies }
+    go false replies = record { keep = keep; replies = replies ∙ last }
+
 -- ---- what is handed out
 
 pub at_most : (series n s : ℕ) → at_series series n s ≤ n
@@ -134,7 +152,7 @@ change_valued old paid price (Some id) s = refl
 pub entered : (old : HouseStateView) (spent : List WindowView) (kept : KeptView) (own : Register) (takings size : ℕ) (q : Asked) (paid : Scrip) (a : Authorization) (piece : Option Scrip) → IsSound old → epoch old.own.terms old.time < 2 ^ 24
     → ((k : ℕ) → is_marked spent k ≡ (is_marked old.spent k || (paid.id == k))) → ((k : ℕ) → end_of spent k ≡ end_of old.spent k)
     → kept.keep ≡ old.kept.keep
-    → kept.replies ≡ inserted (record { asked = q; entry = record { number = old.count; moment = old.time; price = a.price; change = piece; secret = a.secret; deed = a.deed } }) old.kept.replies
+    → kept.replies ≡ kept_with old.kept.keep (record { asked = q; entry = record { number = old.count; moment = old.time; price = a.price; change = piece; secret = a.secret; deed = a.deed } }) old.kept.replies
     → piece ≡ option_map (change_made old paid a.price) a.change
     → own.terms ≡ old.own.terms → own.most ≡ old.own.most
     → ((s : ℕ) → count_in own s ≡ count_in old.own s + at_series (series_now old) (change_count a.change) s)
@@ -153,10 +171,8 @@ entered old spent kept own takings size q paid a piece sound short marks same_en
       limits = refl;
       short = if_change (change_made old paid a.price) a.change short;
       spent = record { marked = marks; ends = same_ends };
-      kept = record {
-        keep = keep;
-        replies = replies ∙ inserted_last (reply piece) old.kept.replies sound.numbers ∙ ap (λ (c : Option Scrip). old.kept.replies ++ reply c ∷ []) is_piece;
-      };
+      kept = kept_so old.kept kept (reply piece) (reply (option_map (change_made old paid a.price) a.change)) keep replies
+          (inserted_last (reply piece) old.kept.replies sound.numbers ∙ ap (λ (c : Option Scrip). old.kept.replies ++ reply c ∷ []) is_piece);
       issuer = terms;
       most = most;
       issued = λ s. omega (arith, count s, change_counted (series_now old) s (change_made old paid a.price) a.change);
@@ -174,6 +190,7 @@ entered old spent kept own takings size q paid a piece sound short marks same_en
 pub record IsSoundGrowth (b : HouseStateView) (g : Growth) : Type 0 where
   pub paid : IfSome g.paid IsPiece
   pub takings : g.takings ≤ MOST
+  pub keeps : IfSome g.kept (λ r. 0 < b.kept.keep)
   pub number : IfSome g.kept (λ r. r.entry.number ≡ b.count)
   pub moment : IfSome g.kept (λ r. r.entry.moment ≡ b.time)
   pub fits : size_with b g.bytes ≤ 2 ^ 40
@@ -186,24 +203,20 @@ ends_stay : (old new : List WindowView) (o : Option Scrip) (id : ℕ) → MatchO
 ends_stay old new None id is = ap (λ (ws : List WindowView). end_of ws id) is
 ends_stay old new (Some p) id is = is.ends id
 
-keeps_more : (old new : KeptView) (o : Option KeptReply) → 0 < old.keep → MatchOption o (new ≡ old) (IsKeptToo old new) → 0 < new.keep
-keeps_more old new None keeps is = subst (λ (k : KeptView). 0 < k.keep) (sym is) keeps
-keeps_more old new (Some r) keeps is = subst (λ (n : ℕ). 0 < n) (sym is.keep) keeps
-
 numbers_more : (old new : KeptView) (o : Option KeptReply) (count : ℕ) → All (λ r. r.entry.number < count) old.replies → IfSome o (λ r. r.entry.number ≡ count)
-    → MatchOption o (new ≡ old) (IsKeptToo old new) → All (λ r. r.entry.number < count + 1) new.replies
+    → MatchOption o (IsKeptAs old new) (IsKeptToo old new) → All (λ r. r.entry.number < count + 1) new.replies
 numbers_more old new o count below number is = go o number is
   where
     more : All (λ r. r.entry.number < count + 1) old.replies
     more = All-weaker (λ r. r.entry.number < count) (λ r. r.entry.number < count + 1) (λ r lt. omega (arith, lt)) old.replies below
 
-    go : (p : Option KeptReply) → IfSome p (λ r. r.entry.number ≡ count) → MatchOption p (new ≡ old) (IsKeptToo old new) → All (λ r. r.entry.number < count + 1) new.replies
-    go None number is = subst (λ (k : KeptView). All (λ r. r.entry.number < count + 1) k.replies) (sym is) more
+    go : (p : Option KeptReply) → IfSome p (λ r. r.entry.number ≡ count) → MatchOption p (IsKeptAs old new) (IsKeptToo old new) → All (λ r. r.entry.number < count + 1) new.replies
+    go None number is = subst (All (λ r. r.entry.number < count + 1)) (sym is.replies) more
     go (Some r) number is = subst (All (λ r. r.entry.number < count + 1)) (sym is.replies) (All-push (λ r. r.entry.number < count + 1) old.replies r more (omega (arith, number)))
 
-in_time_more : (old new : KeptView) (o : Option KeptReply) (t : ℕ) → 0 < old.keep → All (λ r. IsTrue (is_in_time old.keep t r)) old.replies → IfSome o (λ r. r.entry.moment ≡ t)
-    → MatchOption o (new ≡ old) (IsKeptToo old new) → All (λ r. IsTrue (is_in_time new.keep t r)) new.replies
-in_time_more old new None t keeps all moment is = subst (λ (k : KeptView). All (λ r. IsTrue (is_in_time k.keep t r)) k.replies) (sym is) all
+in_time_more : (old new : KeptView) (o : Option KeptReply) (t : ℕ) → IfSome o (λ r. 0 < old.keep) → All (λ r. IsTrue (is_in_time old.keep t r)) old.replies → IfSome o (λ r. r.entry.moment ≡ t)
+    → MatchOption o (IsKeptAs old new) (IsKeptToo old new) → All (λ r. IsTrue (is_in_time new.keep t r)) new.replies
+in_time_more old new None t keeps all moment is = rw (is.replies, is.keep) all
 in_time_more old new (Some r) t keeps all moment is =
     let live : t < r.entry.moment + old.keep = omega (arith, keeps, moment) in
     rw (is.replies, is.keep) (All-push (λ r. IsTrue (is_in_time old.keep t r)) old.replies r all (lt-ltb t (r.entry.moment + old.keep) live))
@@ -214,9 +227,8 @@ sound_more old new g sound brings is = record {
   most = is.most ∙ sound.most ∙ ap (λ (l : Limits). l.series) (sym is.limits);
   counted = omega (arith, is.counted, is.sized, sound.counted);
   sized = omega (arith, is.sized, brings.fits);
-  keeps = keeps_more old.kept new.kept g.kept sound.keeps is.kept;
   numbers = rw is.counted (numbers_more old.kept new.kept g.kept old.count sound.numbers brings.number is.kept);
-  in_time = rw is.time (in_time_more old.kept new.kept g.kept old.time sound.keeps sound.in_time brings.moment is.kept);
+  in_time = rw is.time (in_time_more old.kept new.kept g.kept old.time brings.keeps sound.in_time brings.moment is.kept);
   redeemed = λ s. omega (arith, is.redeemed s, sound.redeemed s, is.counted, redeemed_most g.paid s brings.paid);
   takings = omega (arith, is.takings, sound.takings, is.counted, brings.takings);
   ends = λ id end found. rw is.terms (end_kept old.terms g.terms id end (sound.ends id end (sym (ends_stay old.spent new.spent g.paid id is.spent) ∙ found)));
@@ -225,4 +237,11 @@ sound_more old new g sound brings is = record {
 
 pub sound_entered : (old new : HouseStateView) (q : Asked) (paid : Scrip) (a : Authorization) → IsSound old → IsPiece paid → size_with old a.payload ≤ 2 ^ 40 → IsEntered old new q paid a → IsSound new
 sound_entered old new q paid a sound piece fits is =
-    sound_more old new (accept_growth old q paid a) sound (record { paid = piece; takings = omega (arith, piece.most); number = refl; moment = refl; fits = fits }) is
+    sound_more old new (accept_growth old q paid a) sound (record {
+      paid = piece;
+      takings = omega (arith, piece.most);
+      keeps = if_kept old.kept.keep _ (λ r. 0 < old.kept.keep) (λ keeps. keeps);
+      number = if_kept old.kept.keep _ (λ r. r.entry.number ≡ old.count) (λ keeps. refl);
+      moment = if_kept old.kept.keep _ (λ r. r.entry.moment ≡ old.time) (λ keeps. refl);
+      fits = fits;
+    }) is

@@ -87,7 +87,6 @@ pub record IsSound (b : HouseStateView) : Type 0 where
   pub most : b.own.most ≡ b.limits.series
   pub counted : b.count ≤ b.size
   pub sized : b.size ≤ MOST_JOURNAL
-  pub keeps : 0 < b.kept.keep
   pub numbers : All (λ r. r.entry.number < b.count) b.kept.replies
   pub in_time : All (λ r. IsTrue (is_in_time b.kept.keep b.time r)) b.kept.replies
   pub redeemed : (series : ℕ) → redeemed_in b.own series ≤ b.count * MOST
@@ -175,6 +174,15 @@ pub record IsMarkedToo (old new : List WindowView) (p : Scrip) : Type 0 where
   pub marked : (id : ℕ) → is_marked new id ≡ (is_marked old id || (p.id == id))
   pub ends : (id : ℕ) → end_of new id ≡ end_of old id
 
+-- what is kept for repeats, where replies are kept for so many seconds
+abbrev pub kept_if : ℕ → KeptReply → Option KeptReply
+kept_if keep r = if keep == 0 then None else Some r
+
+-- the same replies are kept
+pub record IsKeptAs (old new : KeptView) : Type 0 where
+  pub keep : new.keep ≡ old.keep
+  pub replies : new.replies ≡ old.replies
+
 -- one reply more is kept
 pub record IsKeptToo (old new : KeptView) (r : KeptReply) : Type 0 where
   pub keep : new.keep ≡ old.keep
@@ -191,7 +199,7 @@ pub record IsGrown (old new : HouseStateView) (g : Growth) : Type 0 where
   pub limits : new.limits ≡ old.limits
   pub short : IfSome g.handed (λ p. epoch old.own.terms old.time < 2 ^ 24)
   pub spent : MatchOption g.paid (new.spent ≡ old.spent) (IsMarkedToo old.spent new.spent)
-  pub kept : MatchOption g.kept (new.kept ≡ old.kept) (IsKeptToo old.kept new.kept)
+  pub kept : MatchOption g.kept (IsKeptAs old.kept new.kept) (IsKeptToo old.kept new.kept)
   pub issuer : new.own.terms ≡ old.own.terms
   pub most : new.own.most ≡ old.own.most
   pub issued : (s : ℕ) → count_in new.own s ≡ count_in old.own s + count_handed (series_now old) g.handed s + g.minted s
@@ -216,7 +224,7 @@ abbrev pub accept_growth : HouseStateView → Asked → Scrip → Authorization 
 accept_growth b q paid a = record {
   paid = Some paid;
   handed = option_map (change_made b paid a.price) a.change;
-  kept = Some (record { asked = q; entry = kept_entry b paid a });
+  kept = kept_if b.kept.keep (record { asked = q; entry = kept_entry b paid a });
   takings = min a.price paid.value;
   terms = [];
   upgrades = [];
@@ -261,7 +269,7 @@ abbrev pub draw_growth : HouseStateView → Asked → DrawAuthorization → Grow
 draw_growth b q d = record {
   paid = None;
   handed = Some (drawn_made b d);
-  kept = Some (record { asked = q; entry = kept_draw b d });
+  kept = kept_if b.kept.keep (record { asked = q; entry = kept_draw b d });
   takings = 0;
   terms = [];
   upgrades = [];

@@ -289,11 +289,24 @@ impl HouseState {
         self.kept.first()
     }
 
-    /// Lets go what is kept for repeats, and has replies come again within one second alone from here on.
-    pub fn keep_briefly(&mut self)
-        ensures { self.new ≡ record self.old { kept = record { keep = 1; replies = []; room = 0 } } }
+    /// Lets go what is kept for repeats, and keeps no reply from here on.
+    pub fn keep_none(&mut self)
+        ensures rest { self.new ≡ record self.old { kept = self.new.kept } }
+        ensures keep { self.new.kept.keep ≡ 0 }
+        ensures replies { self.new.kept.replies ≡ [] }
     {
-        self.kept = Kept::new(self.alloc(), 1);
+        self.kept = Kept::new(self.alloc(), 0);
+    }
+
+    /// Keeps replies for one second, where none are kept.
+    pub fn keep_some(&mut self)
+        ensures rest { self.new ≡ record self.old { kept = self.new.kept } }
+        ensures keeps { 0 < self.new.kept.keep }
+        ensures same { 0 < self.old.kept.keep → self.new ≡ self.old }
+    {
+        if self.kept.seconds() == 0 {
+            self.kept = Kept::new(self.alloc(), 1);
+        }
     }
 
     /// Raises the house time to a reading where that is later, and answers it. Replies whose keeping time

@@ -1,18 +1,18 @@
 -- A reply that is put among others by its number.
-use Rattle.std.proofs.Common.{◌≡◌, subst, ℕ, zero, suc, ◌+◌, ◌<◌, ◌≤◌, Bool, true, false, cond, not, ◌&&◌, ◌||◌, ltb, leb, eqb, ◌-◌, Option, Some, None, IfSome, IsSome, MatchOption, List, [], ◌∷◌, ◌++◌, length, get_or, drop, filter, All, inl, inr, refl, sym, ap, ap₂, ◌∙◌, arith}
+use Rattle.std.proofs.Common.{◌≡◌, subst, ℕ, zero, suc, ◌+◌, ◌<◌, ◌≤◌, ◌^◌, Bool, true, false, cond, not, ◌&&◌, ◌||◌, ltb, leb, eqb, ◌-◌, Option, Some, None, IfSome, IsSome, MatchOption, List, [], ◌∷◌, ◌++◌, length, get_or, drop, filter, All, inl, inr, refl, sym, ap, ap₂, ◌∙◌, arith}
 use Rattle.std.specs.Borrow.{Bor}
 use Rattle.std.specs.List.{AllByRecursion, insert}
 use Rattle.std.specs.List.Sorted.{IsPartitionPoint}
 use Rattle.std.proofs.lemmas.List.{take_all, drop_all}
 use Rattle.std.proofs.lemmas.List.Elements.{recursion_from_All, All-append, All-cons, All-filter, All-weaker, All-from_recursion}
 use Rattle.std.proofs.lemmas.List.Folds.{list_any_at}
-use Rattle.std.proofs.lemmas.Bool.{leb-true, ltb-true, lt-ltb, le-ltb, eqb-false, or_parts, or_left, or_right, and_from, eq-eqb, cases_lt, both_ways, false_from_ne_true}
+use Rattle.std.proofs.lemmas.Bool.{leb-true, ltb-true, lt-ltb, le-ltb, eqb-true, eqb-false, or_parts, or_left, or_right, and_from, eq-eqb, cases_lt, both_ways, false_from_ne_true}
 use Rattle.mc_records.specs.Requests.{Asked}
 use Rattle.kept_replies.specs.Requests.{is_same_request}
-use Rattle.kept_replies.specs.Kept.{KeptReply, AreRising, IsBelowAll, has_request, has_number, inserted}
+use Rattle.kept_replies.specs.Kept.{KeptReply, AreRising, IsBelowAll, has_request, has_number, inserted, kept_with}
 use Rattle.kept_replies.specs.declared.parts.TheConstants.{MOST_BESIDE}
 use Rattle.kept_replies.specs.Index.{IndexView, request_tag, leads, is_mark_of}
-use Rattle.kept_replies.specs.Store.{AreInOrder, IsPlaceOf, HaveOneNumber, AreToOwnRequests, has_mark, room_in}
+use Rattle.kept_replies.specs.Store.{AreInOrder, IsPlaceOf, HaveOneNumber, AreToOwnRequests, has_mark, room_in, room_for}
 use Rattle.kept_replies.proofs.SearchLaws.{front_is, rest_is}
 use Rattle.kept_replies.proofs.ReplyLaws.{number, AreRising-filter, request_is, request_is_own}
 
@@ -85,6 +85,21 @@ within_room replies places bytes size has_place lt = go (ltb replies places && h
     go : (b : Bool) → size < cond b (bytes + 1 - MOST_BESIDE) 0 → MOST_BESIDE + size ≤ bytes
     go true less = omega (arith, less)
     go false less = absurd (omega (arith, less))
+
+-- where replies are kept the room is that of what is stored, and a new one is kept
+pub room_kept : (keep room size : ℕ) → (keep ≡ 0 → ⊥) → size < room_for keep room → size < room
+room_kept keep room size keeps lt = go (eqb keep 0) (λ is. keeps (eqb-true keep 0 is)) lt
+  where
+    go : (b : Bool) → (b ≡ true → ⊥) → size < cond b (2 ^ 16) room → size < room
+    go true never less = absurd (never refl)
+    go false never less = less
+
+pub with_kept : (keep : ℕ) (new : KeptReply) (rs : List KeptReply) → (keep ≡ 0 → ⊥) → kept_with keep new rs ≡ inserted new rs
+with_kept keep new rs keeps = go (eqb keep 0) (λ is. keeps (eqb-true keep 0 is))
+  where
+    go : (b : Bool) → (b ≡ true → ⊥) → cond b rs (inserted new rs) ≡ inserted new rs
+    go true never = absurd (never refl)
+    go false never = refl
 
 -- ---- what holds of the replies with the new one among them
 

@@ -1,5 +1,5 @@
 -- What is kept of first replies, without how it is stored.
-use Rattle.std.specs.Prelude.{ℕ, ◌+◌, ◌<◌, ◌≤◌, Bool, ◌&&◌, ◌==◌, nat_lt, List, [], ◌∷◌, ◌++◌, length, filter, find, All, IsTrue, Option, Some, None, option_map}
+use Rattle.std.specs.Prelude.{ℕ, ◌+◌, ◌<◌, ◌≤◌, Bool, ◌&&◌, ◌==◌, nat_lt, if◌then◌else◌, List, [], ◌∷◌, ◌++◌, length, filter, find, All, IsTrue, Option, Some, None, option_map}
 use Rattle.std.specs.List.{list_any, AllByRecursion}
 use Rattle.mc_records.specs.declared.request.Request.{Request}
 use Rattle.mc_records.specs.Requests.{Asked, asked_of}
@@ -34,8 +34,8 @@ deed_size _ = 0
 abbrev pub entry_size : KeptEntry → ℕ
 entry_size e = change_size e.change + deed_size e.deed
 
--- The keeping time in seconds, the replies in the order of their numbers, and the room that was made: a
--- request and an entry may be kept where their texts have fewer bytes than the room.
+-- For how many seconds replies are kept, none where it is 0, the replies in the order of their numbers, and the room that
+-- was made: a request and an entry may be kept where their texts have fewer bytes than the room.
 pub record KeptView : Type 0 where
   pub keep : ℕ
   pub replies : List KeptReply
@@ -87,6 +87,10 @@ first_number (r ∷ rs) = Some r.entry.number
 abbrev pub inserted : KeptReply → List KeptReply → List KeptReply
 inserted new replies =
     filter (λ r. nat_lt r.entry.number new.entry.number) replies ++ new ∷ filter (λ r. nat_lt new.entry.number r.entry.number) replies
+
+-- the replies with a new one, where replies are kept for so many seconds
+abbrev pub kept_with : ℕ → KeptReply → List KeptReply → List KeptReply
+kept_with keep new replies = if keep == 0 then replies else inserted new replies
 
 -- ---- what the program shows
 

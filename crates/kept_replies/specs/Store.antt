@@ -1,5 +1,5 @@
 -- How the program stores what is kept. No clause of a public call cites this.
-use Rattle.std.specs.Prelude.{◌≡◌, ℕ, ◌+◌, ◌-◌, ◌<◌, ◌≤◌, ◌^◌, Bool, false, ◌&&◌, nat_lt, if◌then◌else◌, List, [], ◌∷◌, All, IsTrue, IsFalse, Option, Some, None}
+use Rattle.std.specs.Prelude.{◌≡◌, ℕ, ◌+◌, ◌-◌, ◌<◌, ◌≤◌, ◌^◌, Bool, false, ◌&&◌, ◌==◌, nat_lt, if◌then◌else◌, List, [], ◌∷◌, All, IsTrue, IsFalse, Option, Some, None}
 use Rattle.std.specs.List.{AllByRecursion}
 use Rattle.std.specs.List.Sorted.{IsPartitionPoint}
 use Rattle.mc_records.specs.Requests.{Asked}
@@ -49,6 +49,10 @@ pub record IsStored (replies : List KeptReply) (in_order : Bool) (index : IndexV
 -- than these bytes without those that an entry may need beside its texts
 abbrev pub room_in : ℕ → ℕ → Bool → ℕ → ℕ
 room_in replies places has_place bytes = if nat_lt replies places && has_place then bytes + 1 - MOST_BESIDE else 0
+
+-- the same where replies are kept for so many seconds: where none is kept it is as large as a request and an entry may need
+abbrev pub room_for : ℕ → ℕ → ℕ
+room_for keep room = if keep == 0 then 2 ^ 16 else room
 
 -- whether a reply that may be there is to this request, and in time
 abbrev pub is_found : ℕ → ℕ → Asked → Option KeptReply → Bool

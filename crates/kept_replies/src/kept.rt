@@ -6,7 +6,7 @@ ghost use Rattle.kept_replies.specs.Index.{slot_leads};
 ghost use Rattle.kept_replies.specs.Store.{AreInOrder, IsPlaceOf, has_mark, is_repeat};
 ghost use Rattle.std.specs.Bool.{then_some};
 ghost use Rattle.std.specs.List.{list_any};
-ghost use Rattle.kept_replies.specs.Kept.{entry_size, AreRising, has_request, has_number, is_in_time, found, NoneInTime, with_number, first_number, inserted, reply_of};
+ghost use Rattle.kept_replies.specs.Kept.{entry_size, AreRising, has_request, has_number, is_in_time, found, NoneInTime, with_number, first_number, kept_with, reply_of};
 
 use crate::index::{Index, mark_in, may_lead, tag_of};
 use crate::parts::MOST_BESIDE;
@@ -24,9 +24,9 @@ use std::mem;
 /// The first replies that a house keeps, for its keeping time, so that a request which comes again
 /// gets its reply again. A request is compared only with the replies to requests of its tag, which
 /// are found by hashing; a number is found by halving, unless it is known where its reply lies, so that
-/// neither takes long where many are kept. Contracts see the keeping time in seconds, the replies in the order of their numbers, which
-/// rise, and the room that was made for one more: a request and an entry may be kept where their texts
-/// have fewer bytes together than the room.
+/// neither takes long where many are kept. With a keeping time of no seconds none is kept. Contracts see the
+/// keeping time in seconds, the replies in the order of their numbers, which rise, and the room that was made
+/// for one more: a request and an entry may be kept where their texts have fewer bytes together than the room.
 #[derive(Drop)]
 pub struct Kept {
     keep: u32,
@@ -46,21 +46,21 @@ impl Model for Kept {
     ghost use Rattle.std.specs.Prelude.{vec_capacity, is_some, ◌&&◌};
     ghost use Rattle.std.specs.VecDeque.{deque_len, deque_capacity};
     ghost use Rattle.kept_replies.specs.Kept.{KeptView};
-    ghost use Rattle.kept_replies.specs.Store.{IsStored, room_in};
+    ghost use Rattle.kept_replies.specs.Store.{IsStored, room_in, room_for};
 
     ghost Value = { KeptView };
 
-    ghost view = { λ k. record { keep = k.keep; replies = k.replies.items; room = room_in (deque_len k.replies) (deque_capacity k.replies) (k.index.has_place && is_some k.place) (vec_capacity k.spare) } };
+    ghost view = { λ k. record { keep = k.keep; replies = k.replies.items; room = room_for k.keep (room_in (deque_len k.replies) (deque_capacity k.replies) (k.index.has_place && is_some k.place) (vec_capacity k.spare)) } };
 
     ghost invariant = { λ k. IsStored k.replies.items k.in_order k.index k.spare.items (vec_capacity k.spare) };
 }
 
 impl Kept {
-    /// No replies, no room, and a keeping time of `keep` seconds. It takes no memory.
+    /// No replies, and a keeping time of `keep` seconds. It takes no memory.
     pub fn new(alloc: Global, keep: u32) -> Kept
         ensures keep { result.keep ≡ keep }
         ensures replies { result.replies ≡ [] }
-        ensures room { result.room ≡ 0 }
+        ensures room { 0 < keep → result.room ≡ 0 }
     {
         Kept {
             keep,
@@ -72,6 +72,13 @@ impl Kept {
         }
     }
 
+    /// For how many seconds replies are kept.
+    pub fn seconds(&self) -> u32
+        ensures { result ≡ self.now.keep }
+    {
+        self.keep
+    }
+
     /// Makes room for this request, with an entry whose texts have so many bytes ([`KeptEntry::size`]); of
     /// others nothing is said. What is kept stays as it is, after an `Err` too. More than 65,202 bytes of texts
     /// are want of memory; those of a head and its entry are fewer, since a head has at most 8,192.
@@ -81,10 +88,14 @@ impl Kept {
         ensures room { OnOk result (text_size (asked_of q.now) + more < self.new.room) }
         ensures rising { AreRising self.new.replies }
     {
+        let keeps = self.keep > 0;
+        let size = short_sum(short_sum(text_size_of(q)?, more)?, MOST_BESIDE)?;
+        if !keeps {
+            return Ok(());
+        }
         make_place(&mut self.replies)?;
         self.index.reserve()?;
         make_box(&mut self.place, *self.spare.allocator())?;
-        let size = short_sum(short_sum(text_size_of(q)?, more)?, MOST_BESIDE)?;
         if self.spare.capacity() != size {
             let alloc = *self.spare.allocator();
             self.spare = Vec::with_capacity(alloc, size)?;
@@ -107,19 +118,22 @@ impl Kept {
     }
 
     /// Keeps an entry for repeats of this request, for which there is room with it, and answers its number;
-    /// neither the request nor the number is kept yet. With what was read of the request's scrip text, change
-    /// that is like its piece takes fewer bytes. It takes no memory, and there may be no room for another
-    /// request then.
+    /// neither the request nor the number is kept yet; with a keeping time of no seconds nothing is kept. With
+    /// what was read of the request's scrip text, change that is like its piece takes fewer bytes. It takes no
+    /// memory, and there may be no room for another request then.
     pub fn keep(&mut self, q: &Request<'_>, paid: Option<&ScripRef<'_>>, e: KeptEntry) -> KeptNumber
         requires room { text_size (asked_of q.now) + entry_size e < self.old.room }
         requires new_request { IsFalse (has_request self.old.replies (asked_of q.now)) }
         requires new_number { IsFalse (has_number self.old.replies e.number) }
         ensures keep { self.new.keep ≡ self.old.keep }
-        ensures replies { self.new.replies ≡ inserted (record { asked = asked_of q.now; entry = e }) self.old.replies }
+        ensures replies { self.new.replies ≡ kept_with self.old.keep (record { asked = asked_of q.now; entry = e }) self.old.replies }
         ensures number { result ≡ e.number }
         ensures rising { AreRising self.new.replies }
     {
         let number = e.number;
+        if self.keep == 0 {
+            return KeptNumber { number, at: 0 };
+        }
         let Some(place) = self.place.take() else {
             unreachable!();
         };

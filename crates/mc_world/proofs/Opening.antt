@@ -69,10 +69,10 @@ pub tells_chain : (limits : Limits) (h : History) (e : Entry) → MayFollow limi
 tells_chain limits h (Switch m c) may = may.allowed.2
 tells_chain limits h e may = tt
 
-pub opened_more : {T : Type 0} (trade : T → TradeView) (passes : Test) (limits : Limits) (h : History) (n : ℕ) (e : Entry) (b c : BenchView T) → IsLawful limits h → size h ≤ MOST_JOURNAL → slice_get h n ≡ Some e → IsOpening trade limits h n b
-    → ((g : History) → Represents trade b g → house_time b ≡ time g → TellsChain g e → size g + entry_size g e ≤ MOST_JOURNAL → Replays trade passes c (limits_of b) g e (Ok tt))
+pub opened_more : {T X : Type 0} (trade : T → TradeView) (passes : Test) (limits : Limits) (h : History) (n : ℕ) (e : Entry) (b c : BenchView T) (x : X) → IsLawful limits h → size h ≤ MOST_JOURNAL → slice_get h n ≡ Some e → IsOpening trade limits h n b
+    → ((g : History) → Represents trade b g → house_time b ≡ time g → TellsChain g e → size g + entry_size g e ≤ MOST_JOURNAL → Replays trade passes c (limits_of b) g e (Ok x))
     → ((g : History) → Represents trade b g → HasContents trade b g → HasContents trade c (g ++ e ∷ [])) → limits_of c ≡ limits_of b → IsOpening trade limits h (n + 1) c
-opened_more trade passes limits h n e b c lawful most is so exact contents kept =
+opened_more trade passes limits h n e b c x lawful most is so exact contents kept =
     let next = take_snoc h n e is in
     let long = size_snoc (take n h) e in
     let here = ap size next in

@@ -68,7 +68,7 @@ impl<T: Trade> Shop<T> {
                 return Err(NoMemory);
             };
             match bench.replay(&entry) {
-                Ok(()) => (),
+                Ok(_) => (),
                 Err(_) => return Err(NoMemory),
             }
         }

@@ -39,7 +39,7 @@ returns-clause-contents g c = rw (← c.self.view_is) (λ h st has in_force.
     let is : IsCommitted b c.commit.new.self q a = subst (λ (p : Asked). IsCommitted b c.commit.new.self p a) c.request.ensures c.commit.ensures.committed in
     let stays = keeping_stays b.limits h (authorized_entry b.time q.target a) st.state.lawful in
     contents_taken g.T.Trade.trade _ after h (authorized_entry b.time q.target a) (kept_of b q a) has (λ target. puts_no_goods b.time q.target target a)
-    stays (keep_committed b c.commit.new.self q a is) (replies_committed b c.commit.new.self q a is) c.learn-learned.ensures.held (kept_held b q (g.T.Trade.trade c.self.inside.trade).holds a (rw (← c.self.view_is) at c.requires.held)) (kept_in_force b q h a in_force))
+    stays (keep_committed b c.commit.new.self q a is) (replies_committed b c.commit.new.self q a has.some is) c.learn-learned.ensures.held (kept_held b q (g.T.Trade.trade c.self.inside.trade).holds a (rw (← c.self.view_is) at c.requires.held)) (kept_in_force b q h a in_force))
 
 pub returns-clause-used : goal.returns-clause-used
 returns-clause-used g c = rw (← c.self.view_is) (λ used.

@@ -67,7 +67,7 @@ returns-clause-contents g c = rw (← c.self.view_is) (λ h st has.
     let after : BenchView g.row.T.Denot = record { state = c.apply_entry.new.self; trade = c.learn.new.self; tally = c.self.inside.tally } in
     let one = contents_applied g.T.Trade.trade _ learned h e has st.state.replies (keeping_stays c.self.inside.state.limits h e st.state.lawful) refl refl c.in-Ok.ensures.held in
     let two = contents_raised g.T.Trade.trade learned raised (h ++ e ∷ []) (max c.self.inside.state.time c.moment.result) one c.raise.ensures.keep c.raise.ensures.replies (λ n held. held) in
-    contents_as_before g.T.Trade.trade raised after (h ++ e ∷ []) two (ap (λ (k : KeptView). k.keep) c.apply_entry.ensures.kept) (ap (λ (k : KeptView). k.replies) c.apply_entry.ensures.kept) (λ n held. held))
+    contents_as_before g.T.Trade.trade raised after (h ++ e ∷ []) two c.apply_entry.ensures.kept.keep c.apply_entry.ensures.kept.replies (λ n held. held))
 
 pub returns-in-Err-clause-contents : goal.returns-in-Err-clause-contents
 returns-in-Err-clause-contents g c = rw (← c.self.view_is) (λ h st has.

@@ -1,8 +1,9 @@
 use Rattle.std.proofs.Common.{[], ◌∷◌, refl, sym, subst}
 use Rattle.mc_records.specs.Views.{entry}
 use Rattle.house_state.specs.HouseState.{HouseStateView}
+use Rattle.house_state.specs.LiveWindows.{AreUsed}
 use Rattle.house_state.specs.Representation.{StateRepresents}
-use Rattle.house_core.proofs.Founded.{stands_briefly}
+use Rattle.house_core.proofs.Founded.{stands_keeping}
 use Rattle.house_core.proofs.bench.Bench.for_reading.Goals as goal
 
 pub returns-clause-holds : goal.returns-clause-holds
@@ -10,8 +11,11 @@ returns-clause-holds g c =
     let e = entry c.args.site.now in
     let st = rw (← c.bench.view_is) at c.in_ok-bench.ensures.holds in
     record {
-      state = subst (λ (b : HouseStateView). StateRepresents b (e ∷ [])) (sym c.keep_briefly.ensures)
-          (stands_briefly e (record { keep = 1; replies = []; room = 0 }) c.requires.site st.state refl);
+      state = subst (λ (b : HouseStateView). StateRepresents b (e ∷ [])) (sym c.keep_none.ensures.rest)
+          (stands_keeping e c.keep_none.new.self.kept c.requires.site st.state c.keep_none.ensures.replies);
       learned = st.learned;
       of_kind = st.of_kind;
     }
+
+pub returns-clause-used : goal.returns-clause-used
+returns-clause-used g c = subst (λ (b : HouseStateView). AreUsed b.spent) (sym c.keep_none.ensures.rest) (rw (← c.bench.view_is) at c.in_ok-bench.ensures.used)

@@ -1,4 +1,4 @@
-use Rattle.house_core.proofs.Founded.{founds_fit, none_kept, keeps_founded, none_spent, stands_founded, learns_site, founds_by_trade}
+use Rattle.house_core.proofs.Founded.{founds_fit, none_kept, keeps_founded, some_founded, none_spent, stands_founded, learns_site, founds_by_trade}
 use Rattle.house_core.specs.BenchView.{BenchView}
 use Rattle.house_core.proofs.Contents.{contents_of_none}
 use Rattle.house_state.proofs.WindowCounts.{none_used}
@@ -20,7 +20,7 @@ returns-clause-holds g c =
 pub returns-clause-contents : goal.returns-clause-contents
 returns-clause-contents g c =
     let made : BenchView g.row.T.Denot = record { state = c.in_ok-state.state; trade = c.learn.new.self; tally = c.none.result } in
-    contents_of_none g.T.Trade.trade made (entry c.args.site.now ∷ []) (keeps_founded c.in_ok-state.state c.args.limits (entry c.args.site.now) c.in_ok-state.ensures) (none_kept c.in_ok-state.state c.args.limits (entry c.args.site.now) c.in_ok-state.ensures)
+    contents_of_none g.T.Trade.trade made (entry c.args.site.now ∷ []) (keeps_founded c.in_ok-state.state c.args.limits (entry c.args.site.now) c.in_ok-state.ensures) (some_founded c.in_ok-state.state c.args.limits (entry c.args.site.now) c.requires.site c.in_ok-state.ensures) (none_kept c.in_ok-state.state c.args.limits (entry c.args.site.now) c.in_ok-state.ensures)
 
 pub returns-clause-used : goal.returns-clause-used
 returns-clause-used g c =

@@ -10,7 +10,7 @@ use Rattle.ledger_model.specs.Lawful.{unbounded, request_of}
 use Rattle.house_state.specs.Representation.{scrip_request}
 use Rattle.house_state.specs.Verdicts.{authorized_entry, stop_of}
 use Rattle.house_core.specs.Bench.{Represents, HasContents}
-use Rattle.house_core.proofs.Replayed.{stops, said_entry, is_said}
+use Rattle.house_core.proofs.Replayed.{stops, said_entry, spent_is, is_said}
 use Rattle.house_core.proofs.bench.Bench.replay_accept.Goals as goal
 
 pub returns-in-Err-clause-exact : goal.returns-in-Err-clause-exact
@@ -66,3 +66,9 @@ returns-in-Ok-commit-clause-contents g c = rw (← c.self.view_is) (λ h st has.
     said_entry c.self.inside.state c.of-q.result t c.args.scrip.now c.args.target.now a c.args.sign.now c.args.price c.args.change (deed_of c.args.deed.now)
     c.in-Ok.ensures.new (ap (λ (q : Asked). q.scrip) asked) (ap (λ (q : Asked). q.target) asked) (c.is_said.ensures.0 c.if-not-is_said.false) in
     subst (λ (x : Entry). HasContents g.T.Trade.trade c.commit.new.self (h ++ x ∷ [])) same ((rw (← c.self.view_is) at c.in-Ok-commit.ensures.contents) h st has (c.in-Ok.ensures.in_force h st.learned st.of_kind)))
+
+pub returns-in-Ok-commit-clause-spent : goal.returns-in-Ok-commit-clause-spent
+returns-in-Ok-commit-clause-spent g c =
+    let asked : c.of-q.result ≡ request_of c.args.scrip.now c.args.target.now c.args.sign.now = c.of-q.ensures ∙ c.request_for.ensures ∙ ap (scrip_request c.args.scrip.now c.args.target.now) c.digits_of-digits.ensures in
+    c.spent.ensures ∙ spent_is c.self.inside.state c.of-q.result c.args.scrip.now c.in-Ok.authorization c.args.sign.now c.args.price c.args.change (deed_of c.args.deed.now)
+    c.in-Ok.ensures.new (ap (λ (q : Asked). q.scrip) asked) (c.is_said.ensures.0 c.if-not-is_said.false)

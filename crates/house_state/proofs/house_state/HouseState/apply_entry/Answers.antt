@@ -1,4 +1,4 @@
-use Rattle.std.proofs.Common.{◌≡◌, ◌≤◌, ◌^◌, refl, sym, subst, arith}
+use Rattle.std.proofs.Common.{rules, ◌≡◌, ◌≤◌, ◌^◌, refl, sym, subst, arith}
 use Rattle.std.specs.Prelude.{◌-◌, vec_len, vec_capacity}
 use Rattle.mc_records.specs.Views.{entry}
 use Rattle.house_state.specs.Views.{kind_number}
@@ -71,3 +71,12 @@ invariant_of-self c =
           sound_grown old before _ old.upgrades old.upgrades_room own size c.args.bytes c.stands_with-self-inside.result c.self.invariant refl (λ s. refl) (λ id end is. is) grown fits
           )
     ]
+
+pub returns : goal.returns
+returns c = elim c.match-r.branch [
+  | in-Terms w ↦ search rules
+  | in-Mint w ↦ search rules
+  | in-Upgrade w ↦ search rules
+  | in-Site-1 w ↦ search rules
+  | in-Upgrade+else-eq w ↦ search rules
+]

@@ -21,7 +21,6 @@ invariant_of-self-2 c =
       most = c.reserve-3.ensures.most ∙ c.reserve-2.ensures.most ∙ sound.most;
       counted = sound.counted;
       sized = sound.sized;
-      keeps = rw c.reserve.ensures.keep sound.keeps;
       numbers = rw c.reserve.ensures.replies sound.numbers;
       in_time = rw (c.reserve.ensures.replies, c.reserve.ensures.keep) sound.in_time;
       redeemed = λ s. rw (c.reserve-3.ensures.redeemed s, c.reserve-2.ensures.redeemed s) (sound.redeemed s);

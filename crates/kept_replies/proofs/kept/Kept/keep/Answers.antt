@@ -1,10 +1,10 @@
-use Rattle.std.proofs.Common.{◌≡◌, ◌+◌, ◌&&◌, is_some, refl, ap, ◌∙◌, arith}
+use Rattle.std.proofs.Common.{◌≡◌, ◌+◌, ◌&&◌, is_some, refl, sym, ap, ◌∙◌, arith}
 use Rattle.std.specs.List.{insert}
 use Rattle.std.proofs.lemmas.Bool.{eq-eqb}
 use Rattle.mc_records.specs.Requests.{asked_of}
 use Rattle.kept_replies.specs.Requests.{text_size}
 use Rattle.kept_replies.specs.Kept.{KeptReply, AreRising, inserted, entry_size}
-use Rattle.kept_replies.proofs.InsertLaws.{insert_is, AreRising-inserted, own-inserted, marked-inserted, order-inserted, within_room}
+use Rattle.kept_replies.proofs.InsertLaws.{insert_is, AreRising-inserted, own-inserted, marked-inserted, order-inserted, within_room, room_kept, with_kept}
 use Rattle.kept_replies.proofs.kept.Kept.keep.Goals as goal
 use Rattle.kept_replies.proofs.kept.Kept.keep.Goals.{In-Ok}
 
@@ -24,7 +24,8 @@ rise c = rw (now_kept c) (AreRising-inserted (new c) c.self.inside.replies.items
 pub of-requires-clause-room : goal.of-requires-clause-room
 of-requires-clause-room c =
     let inside = c.self.inside in
-    let within = within_room inside.replies.len inside.replies.cap inside.spare.cap (text_size (asked_of c.args.q.now) + entry_size c.args.e) (inside.index.has_place && is_some inside.place) (rw (← c.self.view_is) at c.requires.room) in
+    let within = within_room inside.replies.len inside.replies.cap inside.spare.cap (text_size (asked_of c.args.q.now) + entry_size c.args.e) (inside.index.has_place && is_some inside.place)
+    (room_kept inside.keep _ _ c.if-self-eq0.false (rw (← c.self.view_is) at c.requires.room)) in
     rw c.replace-buffer.ensures.value (omega (arith, within))
 
 pub invariant_of-self : goal.invariant_of-self
@@ -42,7 +43,7 @@ invariant_of-self c =
     }
 
 pub returns-clause-replies : goal.returns-clause-replies
-returns-clause-replies c = rw (← c.self.view_is) (now_kept c)
+returns-clause-replies c = rw (← c.self.view_is) (now_kept c ∙ sym (with_kept c.self.inside.keep (new c) c.self.inside.replies.items c.if-self-eq0.false))
 
 pub returns-clause-rising : goal.returns-clause-rising
 returns-clause-rising c = rise c

@@ -9,7 +9,7 @@ loop-number-init g c =
 
 pub loop-number-preserved : goal.loop-number-preserved
 loop-number-preserved g c =
-    opened_more g.T.Trade.trade g.T.Trade.passes c.args.limits c.args.history c.loop-number.number _ c.loop-number.bench c.replay.new.self c.requires.lawful c.requires.most (sym c.in-Some-get.ensures.value)
+    opened_more g.T.Trade.trade g.T.Trade.passes c.args.limits c.args.history c.loop-number.number _ c.loop-number.bench c.replay.new.self c.in-Ok.field-0 c.requires.lawful c.requires.most (sym c.in-Some-get.ensures.value)
     c.loop-number.invariant c.in-Ok.ensures.exact c.in-Ok.ensures.contents c.replay.ensures.limits
 
 pub new-requires-clause-site : goal.new-requires-clause-site
