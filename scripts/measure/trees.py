@@ -1,7 +1,8 @@
 #!/usr/bin/env python3
 """How long an audit of several brokers takes, and how much memory: writes the books of ten brokers and ten vendors by the second
 program, a million entries in all, and audits them by the program, beside the digests that their entries need and the bytes that
-they have.
+they have; then once more, with the chain of each book switched on, behind its last entry. The digests are MD5 of what was certified
+and signed, and SHA-256 of the books' bytes, which an audit needs where a chain is told.
 
     scripts/measure/trees.py [ENTRIES]
 
@@ -19,14 +20,9 @@ import millicent  # noqa: E402
 from generate.markets import NOW, Bank, House, terms  # noqa: E402
 from millicent import ACCEPT  # noqa: E402
 from serving import PROGRAM  # noqa: E402
-from timing import BLOCK, md5sum, sha256sum, timed  # noqa: E402
+from timing import BLOCK, alone, least, md5sum, sha256sum  # noqa: E402
 
 SHARES, PIECE, PRICE, RATE = 10, 250, 25, 1000
-# Runs a program and tells the most memory that it took, in KB. This process has all books in memory, which a program that it starts
-# itself would be charged with.
-MOST = """import resource, subprocess, sys
-subprocess.run(sys.argv[1:], check=True, stdout=subprocess.DEVNULL)
-print(resource.getrusage(resource.RUSAGE_CHILDREN).ru_maxrss)"""
 # A draw, a sale, and what a vendor is paid with the piece and its change.
 OF_A_PIECE = 2 + PIECE // PRICE
 
@@ -78,7 +74,8 @@ def blocks(house):
 
 
 def audited(houses, books, folder):
-    """The seconds of an audit, and of the digests, and the audit's memory in bytes."""
+    """The least processor time of an audit and its memory, the least times of the digests by MD5 and SHA-256, and the size of the
+    books."""
     whole, joined = os.path.join(folder, "digests"), os.path.join(folder, "joined")
     with open(whole, "wb") as f:
         f.truncate(sum(blocks(it) for it in houses) * BLOCK)
@@ -86,10 +83,15 @@ def audited(houses, books, folder):
         for book in books:
             with open(book, "rb") as part:
                 f.write(part.read())
-    words = [PROGRAM, "audit", "tree", *books]
-    seconds = timed(lambda: subprocess.run(words, check=True, stdout=subprocess.DEVNULL))
-    told = subprocess.run([sys.executable, "-c", MOST, *words], check=True, stdout=subprocess.PIPE)
-    return seconds, md5sum(whole) + sha256sum(joined), int(told.stdout) * 1024, os.path.getsize(joined)
+    (seconds, memory), md5, sha256 = least(
+        lambda: alone(PROGRAM, "audit", "tree", *books), lambda: md5sum(whole), lambda: sha256sum(joined))
+    return seconds, memory, md5, sha256, os.path.getsize(joined)
+
+
+def tell(count, houses, books, folder):
+    used, memory, md5, sha256, size = audited(houses, books, folder)
+    print("%d entries in %d books of %.0f MB: %.2f s of a processor, %.2f us each, %.0f MB of memory; their digests by MD5 %.2f s and by "
+          "SHA-256 %.2f s, a ratio of %.2f" % (count, len(books), size / 1e6, used, used / count * 1e6, memory / 1e6, md5, sha256, used / (md5 + sha256)))
 
 
 def main():
@@ -104,9 +106,12 @@ def main():
         for path, house in zip(books, houses):
             with open(path, "wb") as f:
                 millicent.write_book(f, house.history.entries)
-        seconds, limit, memory, size = audited(houses, books, folder)
-        print("%d entries in %d books of %.0f MB: %.2f s, %.2f us each; their digests %.2f s, a ratio of %.2f; %.0f MB of memory" % (
-            count, len(books), size / 1e6, seconds, seconds / count * 1e6, limit, seconds / limit, memory / 1e6))
+        tell(count, houses, books, folder)
+        for path, house in zip(books, houses):
+            role = "broker" if isinstance(house, Bank) else "vendor"
+            subprocess.run([PROGRAM, role, "chain", path], check=True, capture_output=True)
+        print("with their chains:")
+        tell(count, houses, books, folder)
 
 
 if __name__ == "__main__":
