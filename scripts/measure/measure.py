@@ -3,12 +3,13 @@
 
     scripts/measure/measure.py [PAYMENTS [BOOK]]
 
-Serving stands beside a plain loop over sockets (`plain.c`), which does the same writes and syncs and nothing else; the two take turns,
-so that both meet the same load of the machine. Opening a book and telling its chain stand beside the digests that its entries need, by
-`md5sum` and `sha256sum`, by the least processor time of five: four of each payment, and of the book's bytes for its chain, which an opening needs
-only once a book has one, as it has in the second two of those rows. A kept reply stands beside the 250 bytes that it should
-take. Pages through `wallet proxy` stand beside the two entries of the wallet's book that each takes. PAYMENTS (2,000) are served of each
-kind, and a tenth as many pages; the book that is opened and audited has BOOK (300,000). It wants a C compiler, `cc`."""
+Serving stands beside a plain loop over sockets (`plain.c`), which does the same writes and syncs and nothing else; the two take
+turns, so that both meet the same load of the machine. Opening a book and telling its chain stand beside the digests that its entries
+need, by `md5sum` and `sha256sum`, by the least processor time of five: four of each payment, and of the book's bytes for its chain,
+which an opening needs only once a book has one, as it has in the second two of those rows. A kept reply stands beside the 250 bytes
+that it should take. Pages through `wallet proxy` stand beside the two entries of the wallet's book that each takes. PAYMENTS (2,000)
+are served of each kind, and a tenth as many pages; the book that is opened and audited has BOOK (300,000). It wants a C compiler,
+`cc`."""
 import os
 import subprocess
 import sys
