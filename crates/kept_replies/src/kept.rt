@@ -111,6 +111,9 @@ impl Kept {
         ensures none { IsNone result ↔ NoneInTime self.now now (asked_of q.now) }
         ensures rising { AreRising self.now.replies }
     {
+        if self.replies.is_empty() {
+            return None;
+        }
         let tag = tag_of(q);
         let first = self.index.first(tag);
         let second = self.index.second(tag);

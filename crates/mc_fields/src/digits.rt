@@ -42,7 +42,7 @@ fn greater(a: u8, b: u8) -> u8
     if a < b { b } else { a }
 }
 
-/// The same, a byte after the other, which tells the place of the first that is none.
+/// So many bytes of two digits each, one after the other, which tells the place of the first that is none.
 #[inline(never)]
 fn read_each<const N: usize>(bytes: &[u8]) -> Result<([u8; N], &[u8]), Stuck>
     ensures { Gives (λ x. (x.0, x.1.now)) result (hex_at N bytes.now) }

@@ -35,8 +35,8 @@ const LAST_PLACE: u64 = Limits::MOST_JOURNAL;
 /// them, their chain, where it is known, the chain of those before the one found last, where that is a Switch, the bytes
 /// from the gate on that were read ahead, the payload found last and the place of its first byte, and how the reading ended.
 ///
-/// The disk is read once, in large pieces, and where a Switch stands what is before the first one once more, for its
-/// chain: of a book without one no chain is computed.
+/// The disk is read once, in large pieces, and where an entry may be a Switch what is before the first such once more, for
+/// its chain: of a book without one no chain is computed.
 pub struct Replay<D> {
     disk: D,
     pub(crate) gate: u64,
