@@ -52,7 +52,7 @@ impl BookSums {
                 name: Name::new(name).unwrap(),
                 kind: *kind,
                 fee: house.fee,
-                terms: house.terms,
+                terms: house.terms.terms(),
                 time: *moment,
                 till: Till::empty(),
                 pieces: Pieces::none(alloc),

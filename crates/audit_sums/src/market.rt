@@ -58,7 +58,7 @@ fn put_licence(licences: &mut Vec<Licence>, r: &Record<'_>) -> Result<(), NoMemo
     match r {
         Record::Licence { vendor, terms, .. } => licences.push(Licence {
             vendor: Name::new(vendor).unwrap(),
-            terms: *terms,
+            terms: terms.terms(),
         })?,
         _ => (),
     }

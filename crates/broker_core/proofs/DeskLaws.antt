@@ -5,12 +5,12 @@ use Rattle.std.specs.Prelude.{is_some, ◌==◌, ◌↔◌}
 use Rattle.std.proofs.lemmas.Option.{same_Some}
 use Rattle.std.specs.List.{list_any}
 use Rattle.std.proofs.lemmas.Bool.{eq-eqb, false≢true}
-use Rattle.scrip_form.specs.Issuing.{Issuing}
 use Rattle.mc_records.specs.declared.limits.Limits.{Limits}
 use Rattle.mc_records.specs.declared.refusal.Refusal.TheVariants.{NoSuchGoods}
 use Rattle.mc_records.specs.Views.{entry}
 use Rattle.mc_records.specs.declared.piece_list.PieceList.{PieceList}
 use Rattle.mc_records.specs.declared.record.Record.{Record}
+use Rattle.mc_records.specs.declared.terms.RecordTerms.{RecordTerms}
 use Rattle.mc_records.specs.declared.record.Record.TheVariants as records
 use Rattle.mc_records.specs.Errands.{Errand, buy, pay_in, draw, errand_of}
 use Rattle.mc_records.proofs.ErrandLaws.{errand_told}
@@ -161,7 +161,7 @@ none_found h vendor None none shows = shows
 none_found h vendor (Some s) none shows = absurd (false≢true (sym none))
 
 -- the stalls allow every entry but licences and stock
-pub stalls_free : (r : Record) → ((m : ℕ) (vendor : Bor (List ℕ)) (terms : Issuing) → r ≡ records.Licence m vendor terms → ⊥)
+pub stalls_free : (r : Record) → ((m : ℕ) (vendor : Bor (List ℕ)) (terms : RecordTerms) → r ≡ records.Licence m vendor terms → ⊥)
     → ((m : ℕ) (vendor : Bor (List ℕ)) (pieces : PieceList) → r ≡ records.Stock m vendor pieces → ⊥) → (h : History) → StallsAllow h (entry r)
 stalls_free (records.Licence m vendor terms) licence stock h = absurd (licence m vendor terms refl)
 stalls_free (records.Stock m vendor pieces) licence stock h = absurd (stock m vendor pieces refl)

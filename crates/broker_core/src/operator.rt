@@ -22,7 +22,7 @@ use house_core::{House, Outcome};
 use issuer_terms::{are_same, terms_fit};
 use mc_base::{Amount, Moment};
 use mc_outside::Disk;
-use mc_records::{PieceList, Record, Refusal};
+use mc_records::{PieceList, Record, RecordTerms, Refusal, SiteTerms};
 use piece_lines::{PieceLinesFault, PieceRule, lines_are_of_pieces, read_piece_lines};
 use scrip_form::{Id, Name, Terms};
 use scrip_journal::Receipt;
@@ -43,7 +43,7 @@ pub fn open_account<D: Disk>(
         (limits_of house.bench) house.journal.disk h result }
     ensures refusals { IfRefused (IsAmong (33 ∷ 60 ∷ [])) result }
 {
-    let _parts: Option<(PieceList<'_>, Id, Terms)> = None;
+    let _parts: Option<(PieceList<'_>, Id, SiteTerms<'_>)> = None;
     let accounts = house.trade().accounts();
     let task = accounts.account_task(house.time(), name, key);
     perform(house, &task)
@@ -70,7 +70,7 @@ pub fn deposit<'a, D: Disk>(
         (limits_of house.bench) house.journal.disk h result }
     ensures refusals { IfRefused (IsAmong (33 ∷ 40 ∷ 45 ∷ 56 ∷ [])) result }
 {
-    let _parts: Option<(PieceList<'_>, Id, Terms)> = None;
+    let _parts: Option<(PieceList<'_>, Id, SiteTerms<'_>)> = None;
     let accounts = house.trade().accounts();
     let task = accounts.deposit_task(house.time(), name, amount, reference);
     pay(house, name, &task)
@@ -97,7 +97,7 @@ pub fn withdraw<'a, D: Disk>(
         (limits_of house.bench) house.journal.disk h result }
     ensures refusals { IfRefused (IsAmong (33 ∷ 40 ∷ 42 ∷ 56 ∷ [])) result }
 {
-    let _parts: Option<(PieceList<'_>, Id, Terms)> = None;
+    let _parts: Option<(PieceList<'_>, Id, SiteTerms<'_>)> = None;
     let accounts = house.trade().accounts();
     let task = accounts.withdraw_task(house.time(), name, amount, reference);
     pay(house, name, &task)
@@ -121,7 +121,7 @@ pub fn add_licence<D: Disk>(
         (limits_of house.bench) house.journal.disk h result }
     ensures refusals { IfRefused (IsAmong (33 ∷ 59 ∷ [])) result }
 {
-    let _parts: Option<(PieceList<'_>, Id)> = None;
+    let _parts: Option<(PieceList<'_>, Id, SiteTerms<'_>)> = None;
     let task = licence_task(house.trade(), house.time(), vendor, terms);
     perform(house, &task)
 }
@@ -131,7 +131,7 @@ fn licence_task<'a>(
     desk: &Desk,
     moment: Moment,
     vendor: &'a Name,
-    terms: &Terms,
+    terms: &'a Terms,
 ) -> Result<Option<Record<'a>>, Refusal>
     requires issuer { 0 < terms.now.issuer }
     ensures exact { (h : History) → DeskRepresents desk.now h
@@ -155,7 +155,7 @@ fn licence_task<'a>(
     Ok(Some(Record::Licence {
         moment,
         vendor: vendor.bytes(),
-        terms: *terms,
+        terms: RecordTerms::of(terms),
     }))
 }
 
@@ -247,7 +247,7 @@ fn enter_stock<D: Disk>(
         (limits_of house.bench) house.journal.disk h result }
     ensures refusals { IfRefused (IsAmong (33 ∷ [])) result }
 {
-    let _parts: Option<(Id, Terms)> = None;
+    let _parts: Option<(Id, SiteTerms<'_>)> = None;
     lines_are_of_pieces();
     let pieces = PieceList::read(elements).unwrap();
     let record = Record::Stock {

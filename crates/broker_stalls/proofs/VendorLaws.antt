@@ -16,6 +16,7 @@ use Rattle.mc_records.specs.ErrandViews.{errand}
 use Rattle.mc_records.specs.Views.{deed_of, entry}
 use Rattle.mc_records.specs.declared.errand.Errand as errands
 use Rattle.mc_records.specs.declared.record.Record.{Record}
+use Rattle.mc_records.specs.declared.terms.RecordTerms.{RecordTerms}
 use Rattle.mc_records.specs.declared.record.Record.TheVariants as records
 use Rattle.mc_records.specs.declared.record.RecordDeed.{RecordDeed}
 use Rattle.mc_records.specs.declared.record.RecordDeed.TheVariants as deeds
@@ -290,7 +291,7 @@ pub record IsOfNone (e : Entry) : Type 0 where
 
 pub is_of_none : (r : Record)
     → ((m : ℕ) (scrip target : Bor (List ℕ)) (sign : Option (List ℕ)) (price : ℕ) (change : Option ℕ) (deed : RecordDeed) → r ≡ records.Accept m scrip target sign price change deed → ⊥)
-    → ((m : ℕ) (vendor : Bor (List ℕ)) (terms : Issuing) → r ≡ records.Licence m vendor terms → ⊥)
+    → ((m : ℕ) (vendor : Bor (List ℕ)) (terms : RecordTerms) → r ≡ records.Licence m vendor terms → ⊥)
     → ((m : ℕ) (vendor : Bor (List ℕ)) (pieces : PieceList) → r ≡ records.Stock m vendor pieces → ⊥)
     → IsOfNone (entry r)
 is_of_none (records.Accept m scrip target sign price change deed) accept licence stock = absurd (accept m scrip target sign price change deed refl)

@@ -100,7 +100,7 @@ impl Stalls {
             → StallsRepresent self.new h }
     {
         match *r {
-            Record::Licence { vendor, terms, .. } => self.license(vendor, &terms),
+            Record::Licence { vendor, terms, .. } => self.license(vendor, &terms.terms()),
             Record::Stock { vendor, pieces, .. } => self.stock(vendor, &pieces),
             Record::Accept {
                 moment,

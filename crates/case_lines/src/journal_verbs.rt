@@ -3,7 +3,7 @@
 use crate::fault::Fault;
 use crate::show::Lines;
 use crate::state::State;
-use mc_records::{Limits, PieceList, read_record, write_record};
+use mc_records::{Limits, PieceList, SiteTerms, read_record, write_record};
 use mc_stage::Stage;
 use scrip_journal::{
     Journal, OpenFault, Replay, ReplayFault, StageFault, found_journal, open_journal,
@@ -102,7 +102,7 @@ enum Entered {
 }
 
 fn enter(journal: Journal<Stage>, payload: &[u8]) -> Entered {
-    let _pieces: Option<PieceList<'_>> = None;
+    let _parts: Option<(PieceList<'_>, SiteTerms<'_>)> = None;
     let record = match read_record(payload) {
         Ok(record) => record,
         Err(fault) => return Entered::Fault(journal.close(), fault.place as u64),

@@ -93,7 +93,7 @@ fn show(record: &Record<'_>, out: &mut Lines) {
         }
         Record::Terms { moment, terms } => {
             begin(2, moment, out);
-            show_terms(&terms, out)
+            show_terms(&terms.terms(), out)
         }
         Record::Goods {
             moment,
@@ -134,7 +134,7 @@ fn show(record: &Record<'_>, out: &mut Lines) {
     }
 }
 
-fn show_site(kind: u8, name: &[u8], house: &Option<SiteTerms>, out: &mut Lines) {
+fn show_site(kind: u8, name: &[u8], house: &Option<SiteTerms<'_>>, out: &mut Lines) {
     out.number(u64::from(kind));
     out.bytes(name);
     let Some(house) = house else {
@@ -143,15 +143,15 @@ fn show_site(kind: u8, name: &[u8], house: &Option<SiteTerms>, out: &mut Lines) 
     out.number(u64::from(house.keep));
     out.number(house.fee);
     out.number(u64::from(house.clear));
-    show_terms(&house.terms, out)
+    show_terms(&house.terms.terms(), out)
 }
 
 fn show_terms(terms: &Terms, out: &mut Lines) {
     out.number(u64::from(terms.issuer()));
     out.number(u64::from(terms.period()));
     out.number(u64::from(terms.life()));
-    show_secrets(terms.scrip().list(), out);
-    show_secrets(terms.customer().list(), out)
+    show_secrets(terms.scrip(), out);
+    show_secrets(terms.customer(), out)
 }
 
 /// Prints secrets, joined.
@@ -270,7 +270,7 @@ fn show_of_broker(record: &Record<'_>, out: &mut Lines) {
         } => {
             begin(10, moment, out);
             out.bytes(vendor);
-            show_terms(&terms, out)
+            show_terms(&terms.terms(), out)
         }
         Record::Stock {
             moment,

@@ -6,6 +6,7 @@ use Rattle.std.specs.Option.{option_or}
 use Rattle.std.proofs.lemmas.Slice.Eq.{bytes_eq-Decides}
 use Rattle.scrip_form.specs.Issuing.{Issuing}
 use Rattle.mc_records.specs.declared.record.Record.{Record}
+use Rattle.mc_records.specs.declared.terms.RecordTerms.{RecordTerms}
 use Rattle.mc_records.specs.declared.record.Record.TheVariants as records
 use Rattle.mc_records.specs.Entry.{Entry, Licence}
 use Rattle.mc_records.specs.Views.{entry}
@@ -126,7 +127,7 @@ terms_stand_on old new terms h same stand = record {
 -- ---- records
 
 abbrev pub IsNoLicence : Record → Type 0
-IsNoLicence r = (m : ℕ) (v : Bor (List ℕ)) (t : Issuing) → r ≡ records.Licence m v t → ⊥
+IsNoLicence r = (m : ℕ) (v : Bor (List ℕ)) (t : RecordTerms) → r ≡ records.Licence m v t → ⊥
 
 -- a record that is no licence brings none
 pub no_licence : (r : Record) → IsNoLicence r → (q : List ℕ) → is_licence_of q (entry r) ≡ false

@@ -209,10 +209,10 @@ fn brought(r: &Record<'_>) -> Option<Terms>
 {
     match *r {
         Record::Site { house, .. } => match house {
-            Some(house) => Some(house.terms),
+            Some(house) => Some(house.terms.terms()),
             None => None,
         },
-        Record::Terms { terms, .. } => Some(terms),
+        Record::Terms { terms, .. } => Some(terms.terms()),
         _ => None,
     }
 }

@@ -63,7 +63,7 @@ impl Licences {
         };
         if self.places.get(vendor).is_none() {
             self.places.put(self.terms.len());
-            self.terms.push_reserved(terms);
+            self.terms.push_reserved(terms.terms());
         }
     }
 }

@@ -18,8 +18,8 @@ use house_core::{House, Outcome};
 use house_state::Trade;
 use mc_base::Moment;
 use mc_outside::Disk;
-use mc_records::{PieceList, Record};
-use scrip_form::{Id, Terms};
+use mc_records::{PieceList, Record, SiteTerms};
+use scrip_form::Id;
 
 /// Enters a note of the house time, which is in order, and answers an amount. The inner trade asks nothing of notes.
 /// Refused with 33 JournalFull alone.
@@ -41,7 +41,7 @@ pub(crate) fn enter_note<D: Disk, T: Trade>(
         (limits_of house.bench) house.journal.disk h result }
     ensures refusals { IfRefused (IsAmong (33 ∷ [])) result }
 {
-    let _parts: Option<(PieceList<'_>, Id, Terms)> = None;
+    let _parts: Option<(PieceList<'_>, Id, SiteTerms<'_>)> = None;
     let record = note(house.time(), tag, bytes);
     match house.enter(&record) {
         Outcome::Done(house, _) => Outcome::Done(house, amount),

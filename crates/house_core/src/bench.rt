@@ -33,7 +33,9 @@ use house_state::{
 };
 use kept_replies::{Deed, KeptNumber};
 use mc_base::{Moment, NoMemory};
-use mc_records::{Limits, PieceList, Record, RecordDeed, Refusal, Request, payloads_are_short};
+use mc_records::{
+    Limits, PieceList, Record, RecordDeed, Refusal, Request, SiteTerms, payloads_are_short,
+};
 use scrip_journal::LearnFault;
 use std::alloc::Global;
 use std::marker::Model;
@@ -444,7 +446,7 @@ impl<T: Trade> Bench<T> {
             → MatchResult result
             (λ n. HasContents T.trade self.new (h ++ authorized_entry (house_time self.old) q.now.target authorization.now ∷ [])) (λ f. HasContents T.trade self.new h) }
     {
-        let _pieces: Option<PieceList<'_>> = None;
+        let _parts: Option<(PieceList<'_>, SiteTerms<'_>)> = None;
         let record = entry_of(self.state.time(), q.request(), authorization);
         match self.make_room(q, authorization, &record) {
             Ok(()) => (),

@@ -35,7 +35,7 @@ use crate::settled::Settled;
 use house_state::{Authorized, NotAuthorized, Presented, Trade, Verdict, evaluate, terms_of};
 use mc_base::{Moment, NoMemory};
 use mc_outside::Disk;
-use mc_records::{Limits, PieceList, Record, Refusal, Request};
+use mc_records::{Limits, PieceList, Record, Refusal, Request, SiteTerms};
 use scrip_form::{Id, Name, Piece, Terms};
 use scrip_journal::{Journal, Receipt, StageFault};
 use std::alloc::Global;
@@ -301,7 +301,7 @@ impl<D: Disk, T: Trade> House<D, T> {
             (Leaves (model.Take (authorized_entry (house_time self.bench) q.now.target authorization.entry)) result h (D.disk self.journal.disk).aside) }
     {
         let House { journal, mut bench } = self;
-        let _pieces: Option<PieceList<'_>> = None;
+        let _parts: Option<(PieceList<'_>, SiteTerms<'_>)> = None;
         let record = entry_of(bench.state.time(), q.request(), &authorization);
         match bench.make_room(q, &authorization, &record) {
             Ok(()) => (),

@@ -95,7 +95,7 @@ impl HouseState {
         alloc: Global,
         moment: Moment,
         name: Name,
-        house: &SiteTerms,
+        house: &SiteTerms<'_>,
         limits: Limits,
         payload: u64,
     ) -> Result<HouseState, NoMemory>
@@ -104,8 +104,9 @@ impl HouseState {
         requires short { payload < 2 ^ 32 }
         ensures { IfOk result (λ b. IsFounded b moment name (house_of house.now) limits payload) }
     {
+        let own = house.terms.terms();
         let mut terms = Vec::with_capacity(alloc, 1)?;
-        terms.push_reserved(house.terms);
+        terms.push_reserved(own);
         Ok(HouseState {
             name,
             clear: house.clear,
@@ -114,7 +115,7 @@ impl HouseState {
             time: moment,
             spent: Windows::new(alloc),
             kept: Kept::new(alloc, house.keep),
-            own: Issuer::new(alloc, house.terms, limits),
+            own: Issuer::new(alloc, own, limits),
             takings: Total::zero(),
             count: 1,
             size: EMPTY_JOURNAL + payload + FRAME,
@@ -303,6 +304,8 @@ impl HouseState {
         ensures rest { self.new ≡ record self.old { kept = self.new.kept } }
         ensures keeps { 0 < self.new.kept.keep }
         ensures same { 0 < self.old.kept.keep → self.new ≡ self.old }
+        ensures second { self.old.kept.keep ≡ 0 → self.new.kept.keep ≡ 1 }
+        ensures replies { self.old.kept.keep ≡ 0 → self.new.kept.replies ≡ [] }
     {
         if self.kept.seconds() == 0 {
             self.kept = Kept::new(self.alloc(), 1);
@@ -512,7 +515,7 @@ impl HouseState {
     {
         let size = self.size_with(bytes);
         match r {
-            Record::Terms { terms, .. } => self.terms.push_reserved(*terms),
+            Record::Terms { terms, .. } => self.terms.push_reserved(terms.terms()),
             Record::Mint { count, first, .. } => self.own.count_on(*first, u32::from(*count)),
             Record::Upgrade {
                 vendor,

@@ -11,8 +11,8 @@ pub fn are_same(a: &Terms, b: &Terms) -> bool
     a.issuer() == b.issuer()
         && a.period() == b.period()
         && a.life() == b.life()
-        && a.scrip_list() == b.scrip_list()
-        && a.customer_list() == b.customer_list()
+        && a.scrip() == b.scrip()
+        && a.customer() == b.customer()
 }
 
 /// The terms of an issuer above 0 are as an entry has them.
@@ -22,8 +22,8 @@ pub fn terms_fit(terms: Terms)
 {
     // What the parts know of themselves.
     let _issuer = terms.issuer();
-    secrets_have_keys(terms.scrip().list());
-    secrets_have_keys(terms.customer().list());
+    secrets_have_keys(terms.scrip());
+    secrets_have_keys(terms.customer());
 }
 
 /// Secrets of 16 bytes each are as an entry has them.

@@ -4,6 +4,7 @@ pub mod KindLaws
 pub mod EntryLaws
 pub mod GroupLaws
 pub mod PieceLaws
+pub mod SecretLaws
 pub mod ReadLaws
 pub mod PayloadSizes
 pub mod ChainLaws

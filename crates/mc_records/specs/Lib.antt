@@ -12,6 +12,8 @@ pub mod Forms
 pub mod Pieces
 pub mod PieceLine
 pub mod PieceViews
+pub mod TermsRanges
+pub mod TermsViews
 pub mod Views
 pub mod Cells
 pub mod Errands

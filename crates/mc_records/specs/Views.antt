@@ -9,6 +9,7 @@ use Rattle.mc_records.specs.declared.record.SiteTerms.{SiteTerms}
 use Rattle.mc_records.specs.declared.record.RecordFault.{RecordFault}
 use Rattle.mc_records.specs.Entry.{Deed, goods_deed, sale, credit, House, Held, Entry, Site, AddTerms, Goods, Accept, Mint, Account, Deposit, Withdraw, Draw, Licence, Stock, Got, Pend, Done, Refused, Upgrade, Switch, Note}
 use Rattle.mc_records.specs.PieceViews.{pieces_of}
+use Rattle.mc_records.specs.TermsViews.{issuing_of}
 use Rattle.mc_records.specs.Requests.{seen}
 
 abbrev pub deed_of : RecordDeed → Deed
@@ -17,7 +18,7 @@ deed_of (deeds.Sale stock id) = sale stock id
 deed_of (deeds.Credit balance) = credit balance
 
 abbrev pub house_of : SiteTerms → House
-house_of h = record { keep = h.keep; fee = h.fee; clear = h.clear; terms = h.terms }
+house_of h = record { keep = h.keep; fee = h.fee; clear = h.clear; terms = issuing_of h.terms }
 
 -- a text and its secret
 abbrev pub held_of : Bor (List ℕ) × List ℕ → Held
@@ -26,7 +27,7 @@ held_of p = record { text = p.0.now; secret = p.1 }
 -- the entry, without where its texts lie in memory
 abbrev pub entry : Record → Entry
 entry (records.Site m kind name house) = Site m kind name.now (option_map house_of house)
-entry (records.Terms m terms) = AddTerms m terms
+entry (records.Terms m terms) = AddTerms m (issuing_of terms)
 entry (records.Goods m target price kind contents) = Goods m target.now price kind contents.now
 entry (records.Accept m scrip target sign price change deed) = Accept m scrip.now target.now sign price change (deed_of deed)
 entry (records.Mint m reference count value first) = Mint m reference.now count value first
@@ -34,7 +35,7 @@ entry (records.Account m name key) = Account m name.now key
 entry (records.Deposit m name amount reference) = Deposit m name.now amount reference.now
 entry (records.Withdraw m name amount reference) = Withdraw m name.now amount reference.now
 entry (records.Draw m target sign drawn) = Draw m target.now sign drawn
-entry (records.Licence m vendor terms) = Licence m vendor.now terms
+entry (records.Licence m vendor terms) = Licence m vendor.now (issuing_of terms)
 entry (records.Stock m vendor pieces) = Stock m vendor.now (pieces_of pieces)
 entry (records.Got m pieces) = Got m (pieces_of pieces)
 entry (records.Pend m ask peer target scrip secret) = Pend m ask peer.now target.now (seen scrip) secret

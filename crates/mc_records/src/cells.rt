@@ -4,13 +4,15 @@ ghost use Rattle.std.specs.Prelude.{◌≡◌, ◌<◌, [], ◌∷◌, ◌++◌,
 ghost use Rattle.mc_fields.specs.Field.{one, four, eight, number, flag};
 ghost use Rattle.mc_records.specs.Entry.{fields, secrets_fields, sign_fields, change_fields, deed_fields, text_fields, got_fields};
 ghost use Rattle.mc_records.specs.Requests.{seen};
+ghost use Rattle.mc_records.specs.TermsViews.{issuing_of};
 ghost use Rattle.mc_records.specs.Views.{entry, deed_of, held_of};
 ghost use Rattle.mc_records.specs.Cells.{group_fields, groups_fields, kind_of};
 
 use crate::piece_list::PieceList;
 use crate::record::{Record, RecordDeed, SiteTerms};
+use crate::terms::RecordTerms;
 use mc_base::Moment;
-use scrip_form::{Id, Terms};
+use scrip_form::Id;
 
 /// A field with its value, or a count with all that it counts.
 #[derive(Clone, Copy, Drop)]
@@ -319,7 +321,7 @@ fn head<'a>(kind: u8, moment: Moment) -> Group<'a>
 }
 
 /// The keeping time, the fee and the clear flag of a house.
-fn house_cells<'a>(house: &SiteTerms) -> Group<'a>
+fn house_cells<'a>(house: &SiteTerms<'_>) -> Group<'a>
     ensures { group_fields result ≡ number four house.now.keep ∷ number eight house.now.fee ∷ flag house.now.clear ∷ [] }
 {
     Group(
@@ -330,8 +332,8 @@ fn house_cells<'a>(house: &SiteTerms) -> Group<'a>
 }
 
 /// The version of terms, which is 1, their issuer and their period.
-fn issuer_cells<'a>(terms: &Terms) -> Group<'a>
-    ensures { group_fields result ≡ number one 1 ∷ number one terms.now.issuer ∷ number four terms.now.period ∷ [] }
+fn issuer_cells<'a>(terms: &RecordTerms<'_>) -> Group<'a>
+    ensures { group_fields result ≡ number one 1 ∷ number one (issuing_of terms.now).issuer ∷ number four (issuing_of terms.now).period ∷ [] }
 {
     Group(
         Cell::Byte(1),
@@ -341,13 +343,14 @@ fn issuer_cells<'a>(terms: &Terms) -> Group<'a>
 }
 
 /// The life of a series under terms, and their secrets.
-fn secret_cells(terms: &Terms) -> Group<'_>
-    ensures { group_fields result ≡ number four terms.now.life ∷ (secrets_fields terms.now.scrip ++ secrets_fields terms.now.customer) }
+fn secret_cells<'a>(terms: &RecordTerms<'a>) -> Group<'a>
+    ensures { group_fields result ≡ number four (issuing_of terms.now).life
+        ∷ (secrets_fields (issuing_of terms.now).scrip ++ secrets_fields (issuing_of terms.now).customer) }
 {
     Group(
         Cell::Word(terms.life()),
-        Cell::Secrets(terms.scrip_list()),
-        Cell::Secrets(terms.customer_list()),
+        Cell::Secrets(terms.scrip()),
+        Cell::Secrets(terms.customer()),
     )
 }
 

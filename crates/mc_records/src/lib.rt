@@ -27,6 +27,7 @@ mod refusal;
 mod refusal_text;
 mod request;
 mod sizes;
+mod terms;
 mod writing;
 
 pub use appending::write_record;
@@ -48,4 +49,5 @@ pub use refusal::Refusal;
 pub use refusal_text::{MOST_REFUSAL_BYTES, put_refusal_text};
 pub use request::Request;
 pub use sizes::{EMPTY_JOURNAL, FRAME, PAYLOAD_BOUND, grown_size, tail_len};
+pub use terms::RecordTerms;
 pub use writing::put_record;

@@ -1,19 +1,22 @@
 //! Readers of the parts of entries, from the front of the bytes.
 
-ghost use Rattle.std.specs.Prelude.{◌≤◌, Some, take, option_map};
+ghost use Rattle.std.specs.Prelude.{◌≡◌, Some, IfOk, length, option_map};
 ghost use Rattle.scrip_form.specs.Texts.{is_name, is_target};
 ghost use Rattle.scrip_form.specs.Reading.{is_scrip};
 ghost use Rattle.mc_fields.specs.Form.{run, repeated, plain, done, plain_at, str_at};
 ghost use Rattle.mc_fields.specs.Gives.{Gives};
 ghost use Rattle.mc_records.specs.Requests.{seen};
 ghost use Rattle.mc_records.specs.Forms.{secrets_form, terms_form, house_with, house_form, sign_form, change_form, deed_form, held_form, text_form, got_form};
+ghost use Rattle.mc_records.specs.TermsRanges.{AreSome};
+ghost use Rattle.mc_records.specs.TermsViews.{issuing_of};
 ghost use Rattle.mc_records.specs.Views.{deed_of, house_of, held_of};
 
 use crate::ranges::{CHAIN_BYTES, LEAST_KEEP, MOST_KEEP};
 use crate::record::{RecordDeed, SiteTerms};
+use crate::terms::RecordTerms;
 use mc_base::Amount;
 use mc_fields::{Stuck, read_counted, read_flag, read_key, read_str, read_u8, read_u32, read_u64};
-use scrip_form::{Id, NameRule, Secrets, TargetRule, Terms, is_scrip};
+use scrip_form::{Id, NameRule, TargetRule, Terms, is_scrip};
 
 pub(crate) fn name(bytes: &[u8]) -> Result<(&[u8], &[u8]), Stuck>
     ensures { Gives (λ x. (x.0.now, x.1.now)) result (str_at is_name bytes.now) }
@@ -134,63 +137,53 @@ pub(crate) fn deed(bytes: &[u8]) -> Result<(RecordDeed, &[u8]), Stuck>
     }
 }
 
-/// So many secrets, at the front of an array.
-fn secrets_list(count: u8, bytes: &[u8]) -> Result<([[u8; 16]; 16], &[u8]), Stuck>
-    requires { count ≤ 16 }
-    ensures { Gives (λ x. (take count x.0, x.1.now)) result (run (repeated count (plain 16 done)) bytes.now) }
+/// So many secrets.
+fn secrets_list(count: u8, bytes: &[u8]) -> Result<(&[[u8; 16]], &[u8]), Stuck>
+    ensures read { Gives (λ x. (x.0.now, x.1.now)) result (run (repeated count (plain 16 done)) bytes.now) }
+    ensures count { IfOk result (λ x. length x.0.now ≡ count) }
 {
-    let mut list = [[0; 16]; 16];
-    let mut rest = bytes;
-    for i in 0..count as usize {
-        let (secret, after) = match read_key(rest) {
-            Ok(found) => found,
-            Err(stuck) => return Err(stuck),
-        };
-        list[i] = secret;
-        rest = after;
+    let (secrets, part) = bytes.as_chunks::<16>();
+    if secrets.len() < count as usize {
+        return Err(Stuck { left: part.len() });
     }
-    Ok((list, rest))
+    let (_, rest) = bytes.split_at(16 * count as usize);
+    Ok((&secrets[..count as usize], rest))
 }
 
 /// The secrets of an issuer, of one kind.
 #[tactic(auto, unfolding(crate::specs::Forms::secrets_form))]
-fn secrets(bytes: &[u8]) -> Result<(Secrets, &[u8]), Stuck>
-    ensures { Gives (λ x. (x.0, x.1.now)) result (run secrets_form bytes.now) }
+fn secrets(bytes: &[u8]) -> Result<(&[[u8; 16]], &[u8]), Stuck>
+    ensures read { Gives (λ x. (x.0.now, x.1.now)) result (run secrets_form bytes.now) }
+    ensures some { IfOk result (λ x. AreSome x.0.now) }
 {
     let (count, rest) = read_u8(bytes, 1, 16)?;
-    let (list, rest) = secrets_list(count, rest)?;
-    match Secrets::new(&list[..count as usize]) {
-        Some(secrets) => Ok((secrets, rest)),
-        None => Err(Stuck { left: bytes.len() }),
-    }
+    secrets_list(count, rest)
 }
 
 /// Terms of an issuer from the lowest to the highest.
 #[tactic(auto, unfolding(crate::specs::Forms::terms_form), using(mc_fields::proofs::FormLaws::behind))]
-pub(crate) fn terms(lowest: u8, highest: u8, bytes: &[u8]) -> Result<(Terms, &[u8]), Stuck>
-    ensures { Gives (λ x. (x.0, x.1.now)) result (run (terms_form lowest highest) bytes.now) }
+pub(crate) fn terms(
+    lowest: u8,
+    highest: u8,
+    bytes: &[u8],
+) -> Result<(RecordTerms<'_>, &[u8]), Stuck>
+    ensures { Gives (λ x. (issuing_of x.0, x.1.now)) result (run (terms_form lowest highest) bytes.now) }
 {
     let (_version, rest) = read_u8(bytes, 1, 1)?;
     let (issuer, rest) = read_u8(rest, lowest, highest)?;
     let (period, rest) = read_u32(rest, Terms::LEAST_PERIOD, Terms::MOST_SECONDS)?;
     let (life, rest) = read_u32(rest, 0, Terms::MOST_SECONDS)?;
-    let (scrip, rest) = match secrets(rest) {
-        Ok(found) => found,
-        Err(stuck) => return Err(stuck),
-    };
-    let (customer, rest) = match secrets(rest) {
-        Ok(found) => found,
-        Err(stuck) => return Err(stuck),
-    };
-    match Terms::new(issuer, period, life, scrip, customer) {
-        Some(terms) => Ok((terms, rest)),
-        None => Err(Stuck { left: bytes.len() }),
-    }
+    let (scrip, rest) = secrets(rest)?;
+    let (customer, rest) = secrets(rest)?;
+    Ok((
+        RecordTerms::new(issuer, period, life, scrip, customer),
+        rest,
+    ))
 }
 
 /// What a house of at most this fee is founded with.
 #[tactic(auto, using(mc_fields::proofs::FormLaws::behind))]
-fn house_with(most: u64, bytes: &[u8]) -> Result<(SiteTerms, &[u8]), Stuck>
+fn house_with(most: u64, bytes: &[u8]) -> Result<(SiteTerms<'_>, &[u8]), Stuck>
     ensures { Gives (λ x. (Some (house_of x.0), x.1.now)) result (run (house_with most) bytes.now) }
 {
     let (keep, rest) = read_u32(bytes, LEAST_KEEP, MOST_KEEP)?;
@@ -211,7 +204,7 @@ fn house_with(most: u64, bytes: &[u8]) -> Result<(SiteTerms, &[u8]), Stuck>
 
 /// What a site of this kind is founded with: a vendor takes no fee, and a wallet is no house.
 #[tactic(auto, unfolding(crate::specs::Forms::house_form))]
-pub(crate) fn house(kind: u8, bytes: &[u8]) -> Result<(Option<SiteTerms>, &[u8]), Stuck>
+pub(crate) fn house(kind: u8, bytes: &[u8]) -> Result<(Option<SiteTerms<'_>>, &[u8]), Stuck>
     ensures { Gives (λ x. (option_map house_of x.0, x.1.now)) result (run (house_form kind) bytes.now) }
 {
     let most = match kind {

@@ -4,8 +4,9 @@ ghost use Rattle.mc_records.specs.Entry.{moment_of};
 ghost use Rattle.mc_records.specs.Views.{entry};
 
 use crate::piece_list::PieceList;
+use crate::terms::RecordTerms;
 use mc_base::Moment;
-use scrip_form::{Id, Terms};
+use scrip_form::Id;
 
 /// What was sold for an accepted piece.
 #[derive(Clone, Copy, Drop)]
@@ -21,7 +22,7 @@ pub enum RecordDeed {
 
 /// What a site that is a house is founded with.
 #[derive(Clone, Copy, Drop)]
-pub struct SiteTerms {
+pub struct SiteTerms<'a> {
     /// How long a request gets its first reply again, 60 to 86,400 seconds.
     pub keep: u32,
     /// What a sale costs beside the value sold: 0 at a vendor, at most 2^40 at a broker.
@@ -29,7 +30,7 @@ pub struct SiteTerms {
     /// Whether a piece is taken without a signature.
     pub clear: bool,
     /// The terms of its own scrip, which are issuer 0's.
-    pub terms: Terms,
+    pub terms: RecordTerms<'a>,
 }
 
 /// An entry of a history, of which nothing is ever changed. Its texts are borrowed, without their
@@ -43,12 +44,12 @@ pub enum Record<'a> {
         moment: Moment,
         kind: u8,
         name: &'a [u8],
-        house: Option<SiteTerms>,
+        house: Option<SiteTerms<'a>>,
     },
     /// Terms of an issuer above 0, which a vendor takes scrip of.
     Terms {
         moment: Moment,
-        terms: Terms,
+        terms: RecordTerms<'a>,
     },
     /// Goods on sale: what is given for a target from now on. The kind of contents is below 3; they
     /// are at most 65,536 bytes.
@@ -108,7 +109,7 @@ pub enum Record<'a> {
     Licence {
         moment: Moment,
         vendor: &'a [u8],
-        terms: Terms,
+        terms: RecordTerms<'a>,
     },
     /// Pieces of a vendor that were bought to be sold.
     Stock {

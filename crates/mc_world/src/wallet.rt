@@ -17,7 +17,7 @@ ghost use Rattle.mc_world.specs.Wallets.{IsOpened, AsksFor, SendsAgainFor, Settl
 
 use ledger_model::History;
 use mc_base::{Amount, Moment, NoMemory};
-use mc_records::{Limits, PieceList, Record, grown_size};
+use mc_records::{Limits, PieceList, Record, SiteTerms, grown_size};
 use reply_reader::{ReplyRead, read_reply};
 use scrip_form::Name;
 use std::alloc::Global;
@@ -61,7 +61,7 @@ pub(crate) fn ask(
     requires book { IsBookOfWallet history.old }
     ensures asks { IfOk result (λ sent. AsksFor limits history.old (asking_of ask.now) reading history.new (option_map (λ v. v.items) sent)) }
 {
-    let _pieces: Option<PieceList<'_>> = None;
+    let _parts: Option<(PieceList<'_>, SiteTerms<'_>)> = None;
     if !can_be_asked(ask) {
         return Ok(None);
     }
@@ -115,7 +115,7 @@ pub(crate) fn take_reply(
     requires book { IsBookOfWallet history.old }
     ensures settles { IfOk result (λ done. SettlesBy limits history.old reply.now number reading history.new done) }
 {
-    let _pieces: Option<PieceList<'_>> = None;
+    let _parts: Option<(PieceList<'_>, SiteTerms<'_>)> = None;
     let read = match read_reply(reply) {
         ReplyRead::Whole(read) => read,
         ReplyRead::Bad => return Ok(false),

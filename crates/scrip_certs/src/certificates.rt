@@ -1,4 +1,4 @@
-ghost use Rattle.std.specs.Prelude.{◌≡◌, ◌≤◌, take};
+ghost use Rattle.std.specs.Prelude.{◌≡◌, ◌<◌, ◌≤◌, length, take};
 ghost use Rattle.scrip_form.specs.Issuing as issuing;
 ghost use Rattle.scrip_form.specs.Scrip.{scrip_body, scrip_text};
 ghost use Rattle.scrip_certs.specs.Digests as digests;
@@ -6,7 +6,7 @@ ghost use Rattle.scrip_certs.specs.Digests as digests;
 use crate::hasher::Hasher;
 use crate::hex_text::hex_of;
 use mc_fields::put;
-use scrip_form::{Id, Piece, Secrets, Terms, write_body};
+use scrip_form::{Id, Piece, Terms, write_body};
 
 /// The certificate of a piece: the digest of the body of its scrip text and of the scrip secret that
 /// its identity selects, in the version of the body.
@@ -16,7 +16,7 @@ pub fn certificate(terms: &Terms, body: &[u8], id: Id) -> [u8; 16]
 {
     let mut hasher = Hasher::of_text(body);
     hasher.update(body);
-    hasher.update(&selected(&terms.scrip(), id));
+    hasher.update(&selected(terms.scrip(), id));
     hasher.finalize()
 }
 
@@ -50,15 +50,15 @@ pub fn customer_secret(terms: &Terms, cust: Id, version: u8) -> [u8; 16]
 {
     let mut hasher = Hasher::of_version(version);
     hasher.update(&cust.number().to_be_bytes());
-    hasher.update(&selected(&terms.customer(), cust));
+    hasher.update(&selected(terms.customer(), cust));
     hasher.finalize()
 }
 
 /// The secret that an identity selects: the one numbered by its epoch, modulo their count.
-fn selected(secrets: &Secrets, id: Id) -> [u8; 16]
+fn selected(secrets: &[[u8; 16]], id: Id) -> [u8; 16]
+    requires { 0 < length secrets.now }
     ensures { result ≡ issuing.selected secrets.now id }
 {
-    let list = secrets.list();
     let (_, epoch, _) = id.parts();
-    list[epoch as usize % list.len()]
+    secrets[epoch as usize % secrets.len()]
 }

@@ -97,7 +97,8 @@ impl Terms {
 
     /// How long a series is issued, in seconds.
     pub fn period(&self) -> u32
-        ensures { result ≡ self.now.period }
+        ensures value { result ≡ self.now.period }
+        ensures ranges { HasPeriod self.now.period self.now.life }
     {
         self.period
     }
@@ -109,33 +110,21 @@ impl Terms {
         self.life
     }
 
-    /// The secrets of certificates.
-    pub fn scrip(&self) -> Secrets
-        ensures { result ≡ self.now.scrip }
-    {
-        self.scrip
-    }
-
     /// The secrets of certificates, in place.
-    pub fn scrip_list(&self) -> &[[u8; 16]]
+    pub fn scrip(&self) -> &[[u8; 16]]
         ensures value { result.now ≡ self.now.scrip }
+        ensures some { 0 < length self.now.scrip }
         ensures few { length self.now.scrip ≤ 16 }
     {
         self.scrip.list()
     }
 
     /// The secrets of customers, in place.
-    pub fn customer_list(&self) -> &[[u8; 16]]
+    pub fn customer(&self) -> &[[u8; 16]]
         ensures value { result.now ≡ self.now.customer }
+        ensures some { 0 < length self.now.customer }
         ensures few { length self.now.customer ≤ 16 }
     {
         self.customer.list()
-    }
-
-    /// The secrets of customers.
-    pub fn customer(&self) -> Secrets
-        ensures { result ≡ self.now.customer }
-    {
-        self.customer
     }
 }

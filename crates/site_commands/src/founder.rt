@@ -8,7 +8,7 @@ ghost use Rattle.site_commands.specs.Founding.{site_of};
 
 use house_state::SiteKind;
 use mc_base::Moment;
-use mc_records::{PieceList, Record, SiteTerms};
+use mc_records::{PieceList, Record, RecordTerms, SiteTerms};
 use site_words::Founder;
 
 /// The first entry of the book that is founded, as a house of this kind.
@@ -27,7 +27,7 @@ pub(crate) fn site<'a>(founder: &'a Founder, kind: SiteKind, moment: Moment) -> 
             keep: founder.keep(),
             fee: founder.fee().get(),
             clear: founder.clear(),
-            terms: *founder.terms(),
+            terms: RecordTerms::of(founder.terms()),
         }),
     }
 }

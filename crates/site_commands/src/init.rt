@@ -14,7 +14,7 @@ use command_status::{Status, not_opened};
 use house_opening::found_house;
 use house_state::Trade;
 use mc_outside::{Link, Outside};
-use mc_records::{Limits, PieceList};
+use mc_records::{Limits, PieceList, SiteTerms};
 use site_words::Founder;
 use std::alloc::Global;
 
@@ -36,7 +36,7 @@ pub fn found_book<O: Outside, T: Trade>(
     ensures founded { (x : List ℕ) → (O.disk out).contents ≡ Some x
         → FoundsBook O.link O.disk (T.trade trade).site founder.now x out result.1 result.0 }
 {
-    let _pieces: Option<PieceList<'_>> = None;
+    let _parts: Option<(PieceList<'_>, SiteTerms<'_>)> = None;
     let kind = trade.kind();
     let moment = out.now();
     let site = site(founder, kind, moment);

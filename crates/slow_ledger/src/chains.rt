@@ -6,7 +6,7 @@ ghost use Rattle.mc_records.specs.Chains.{is_switch, has_switch};
 ghost use Rattle.ledger_model.specs.Houses.{site_kind};
 
 use crate::prefix::Prefix;
-use mc_records::{FIRST_CHAIN, PieceList, Record, chain_after};
+use mc_records::{FIRST_CHAIN, PieceList, Record, SiteTerms, chain_after};
 
 /// Whether a Switch stands among the entries up to and with that of a number, where it is known whether one stands
 /// before it.
@@ -14,7 +14,7 @@ pub(crate) fn switched_by(h: &Prefix<'_>, n: usize, before: bool) -> bool
     requires { n < length h.now }
     ensures { IfSome (slice_get h.now n) (λ e. result ≡ (before || is_switch e)) }
 {
-    let _pieces: Option<PieceList<'_>> = None;
+    let _parts: Option<(PieceList<'_>, SiteTerms<'_>)> = None;
     before || h.record(n).is_switch()
 }
 

@@ -18,7 +18,7 @@ use crate::offers::errand_is_target;
 use crate::prefix::Prefix;
 use crate::stages::{Stopped, fitted, next_own};
 use mc_base::{Moment, NoMemory};
-use mc_records::{Limits, PieceList, Record, Refusal, Request, write_record};
+use mc_records::{Limits, PieceList, Record, Refusal, Request, SiteTerms, write_record};
 use scrip_certs::{hex_of, sign_request};
 use scrip_form::Id;
 use std::alloc::Global;
@@ -71,7 +71,7 @@ fn draw_payload(
 {
     let _seconds = moment.seconds();
     let _number = drawn.number();
-    let _pieces: Option<PieceList<'_>> = None;
+    let _parts: Option<(PieceList<'_>, SiteTerms<'_>)> = None;
     let mut payload = Vec::new(alloc);
     let record = Record::Draw {
         moment,

@@ -21,7 +21,7 @@ pub fn moment_at(h: &Prefix<'_>, n: usize) -> Moment
     requires { n < length h.now }
     ensures { IfSome (slice_get h.now n) (λ e. result ≡ entries.moment_of e) }
 {
-    let _pieces: Option<PieceList<'_>> = None;
+    let _parts: Option<(PieceList<'_>, SiteTerms<'_>)> = None;
     h.record(n).moment()
 }
 
@@ -123,11 +123,11 @@ pub(crate) fn slow_is_clear(h: &Prefix<'_>) -> bool
     }
 }
 
-fn terms_of_house(house: Option<SiteTerms>) -> Option<Terms>
-    ensures { result ≡ option_map (λ x. x.terms) (option_map house_of house) }
+fn terms_of_house(house: Option<SiteTerms<'_>>) -> Option<Terms>
+    ensures { result ≡ option_map (λ x. x.terms) (option_map house_of house.entry) }
 {
     match house {
-        Some(house) => Some(house.terms),
+        Some(house) => Some(house.terms.terms()),
         None => None,
     }
 }
@@ -138,7 +138,7 @@ fn terms_at(h: &Prefix<'_>, n: usize) -> Option<Terms>
 {
     match h.record(n) {
         Record::Site { house, .. } => terms_of_house(house),
-        Record::Terms { terms, .. } => Some(terms),
+        Record::Terms { terms, .. } => Some(terms.terms()),
         _ => None,
     }
 }

@@ -25,7 +25,11 @@ fn licence_at(h: &Prefix<'_>, n: usize, vendor: &[u8]) -> Option<Terms>
             vendor: at,
             terms,
             ..
-        } => if at == vendor { Some(terms) } else { None },
+        } => if at == vendor {
+            Some(terms.terms())
+        } else {
+            None
+        },
         _ => None,
     }
 }

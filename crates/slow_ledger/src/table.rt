@@ -22,7 +22,8 @@ use crate::stages::{Stopped, change_for, fitted, genuine, spendable};
 use ledger_model::History;
 use mc_base::{List, Moment, NoMemory};
 use mc_records::{
-    Errand, Limits, PieceList, Record, RecordDeed, Refusal, Request, read_errand, write_record,
+    Errand, Limits, PieceList, Record, RecordDeed, Refusal, Request, SiteTerms, read_errand,
+    write_record,
 };
 use scrip_form::{Id, ScripRef, read_scrip};
 use std::alloc::Global;
@@ -121,7 +122,7 @@ fn accept_payload(
 {
     let Purchase { price, deed } = offered;
     fit(moment, scrip, target, sign, price, &change, &deed);
-    let _pieces: Option<PieceList<'_>> = None;
+    let _parts: Option<(PieceList<'_>, SiteTerms<'_>)> = None;
     let mut payload = Vec::new(alloc);
     let record = Record::Accept {
         moment,

@@ -35,8 +35,8 @@ pub(crate) fn licence_line(alloc: Global, vendor: &Name, terms: &Terms) -> Resul
     append_number(&mut line, u128::from(terms.issuer()))?;
     append_number(&mut line, u128::from(terms.period()))?;
     append_number(&mut line, u128::from(terms.life()))?;
-    append_secrets(&mut line, terms.scrip_list())?;
-    append_secrets(&mut line, terms.customer_list())?;
+    append_secrets(&mut line, terms.scrip())?;
+    append_secrets(&mut line, terms.customer())?;
     line.extend_from_slice(b"\n")?;
     Ok(line)
 }

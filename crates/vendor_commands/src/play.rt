@@ -9,7 +9,7 @@ use crate::shop::{entered, start};
 use house_core::Bench;
 use house_serving::serve_bench;
 use mc_base::{List, NoMemory};
-use mc_records::{Limits, PieceList, Record, SiteTerms};
+use mc_records::{Limits, PieceList, Record, RecordTerms, SiteTerms};
 use play_heads::{Heads, heads_told_are_of_their_play, play_terms};
 use scrip_form::{Secrets, Terms};
 use std::alloc::Global;
@@ -57,10 +57,11 @@ fn answer_heads(alloc: Global, bench: &mut Bench<Shelf>, count: u32) -> Result<L
 fn open_play(alloc: Global) -> Result<Bench<Shelf>, NoMemory>
     ensures { IfOk result (λ b. IsOpen b play_opening) }
 {
-    let _pieces: Option<PieceList<'_>> = None;
+    let _parts: Option<(PieceList<'_>, SiteTerms<'_>)> = None;
+    let terms = play_terms();
     let licence = Record::Terms {
         moment: start(),
-        terms: play_terms(),
+        terms: RecordTerms::of(&terms),
     };
     let goods = Record::Goods {
         moment: start(),
@@ -78,6 +79,7 @@ fn found_play(alloc: Global) -> Result<Bench<Shelf>, NoMemory>
     ensures { IfOk result (λ b. IsOpen b (play_founding ∷ [])) }
 {
     let _pieces: Option<PieceList<'_>> = None;
+    let terms = house_terms();
     let site = Record::Site {
         moment: start(),
         kind: 0,
@@ -86,7 +88,7 @@ fn found_play(alloc: Global) -> Result<Bench<Shelf>, NoMemory>
             keep: KEEP,
             fee: 0,
             clear: true,
-            terms: house_terms(),
+            terms: RecordTerms::of(&terms),
         }),
     };
     Bench::new(alloc, &site, Limits::FULL, Shelf::new(alloc))

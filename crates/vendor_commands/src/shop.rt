@@ -8,7 +8,7 @@ ghost use Rattle.vendor_commands.specs.Opening.{terms_of, founding, opening, IsO
 
 use house_core::{Bench, EnterFault};
 use mc_base::{Moment, NoMemory};
-use mc_records::{Limits, PieceList, Record, SiteTerms};
+use mc_records::{Limits, PieceList, Record, RecordTerms, SiteTerms};
 use scrip_form::{Secrets, Terms};
 use site_words::Shop;
 use std::alloc::Global;
@@ -31,7 +31,7 @@ const KIND: u8 = 0;
 pub(crate) fn open_shop(alloc: Global, shop: &Shop<'_>) -> Result<Bench<Shelf>, NoMemory>
     ensures { IfOk result (λ b. IsOpen b (opening shop.now)) }
 {
-    let _pieces: Option<PieceList<'_>> = None;
+    let _parts: Option<(PieceList<'_>, SiteTerms<'_>)> = None;
     let goods = Record::Goods {
         moment: start(),
         target: shop.target().bytes(),
@@ -39,9 +39,10 @@ pub(crate) fn open_shop(alloc: Global, shop: &Shop<'_>) -> Result<Bench<Shelf>, 
         kind: KIND,
         contents: shop.contents(),
     };
+    let terms = terms_of(shop, 1);
     let licence = Record::Terms {
         moment: start(),
-        terms: terms_of(shop, 1),
+        terms: RecordTerms::of(&terms),
     };
     let bench = entered(found_shop(alloc, shop)?, &licence)?;
     entered(bench, &goods)
@@ -51,8 +52,19 @@ pub(crate) fn open_shop(alloc: Global, shop: &Shop<'_>) -> Result<Bench<Shelf>, 
 fn found_shop(alloc: Global, shop: &Shop<'_>) -> Result<Bench<Shelf>, NoMemory>
     ensures { IfOk result (λ b. IsOpen b (founding shop.now ∷ [])) }
 {
-    let _pieces: Option<PieceList<'_>> = None;
-    let site = Record::Site {
+    let _parts: Option<(PieceList<'_>, SiteTerms<'_>)> = None;
+    let terms = terms_of(shop, 0);
+    let site = shop_site(shop, &terms);
+    Bench::new(alloc, &site, Limits::FULL, Shelf::new(alloc))
+}
+
+/// The entry that founds the shop, with its terms.
+fn shop_site<'a>(shop: &'a Shop<'_>, terms: &'a Terms) -> Record<'a>
+    requires { terms.now ≡ terms_of shop.now 0 }
+    ensures entry { entry result ≡ founding shop.now }
+    ensures fits { Fits (founding shop.now) }
+{
+    Record::Site {
         moment: start(),
         kind: 0,
         name: shop.name().bytes(),
@@ -60,10 +72,9 @@ fn found_shop(alloc: Global, shop: &Shop<'_>) -> Result<Bench<Shelf>, NoMemory>
             keep: KEEP,
             fee: 0,
             clear: true,
-            terms: terms_of(shop, 0),
+            terms: RecordTerms::of(terms),
         }),
-    };
-    Bench::new(alloc, &site, Limits::FULL, Shelf::new(alloc))
+    }
 }
 
 /// The terms of an issuer.

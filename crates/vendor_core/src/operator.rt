@@ -27,7 +27,7 @@ use issuer_terms::{are_same, terms_fit};
 use ledger_model::MOST_IN_FORCE;
 use mc_base::{Amount, Moment, NoMemory};
 use mc_outside::Disk;
-use mc_records::{PieceList, Record, Refusal};
+use mc_records::{PieceList, Record, RecordTerms, Refusal, SiteTerms};
 use scrip_form::{Id, Name, Target, Terms};
 use scrip_journal::Receipt;
 
@@ -108,7 +108,7 @@ fn enter_goods<D: Disk>(
         (limits_of house.bench) house.journal.disk h result }
     ensures refusals { IfRefused (IsAmong (33 ∷ [])) result }
 {
-    let _parts: Option<(PieceList<'_>, Id, Terms)> = None;
+    let _parts: Option<(PieceList<'_>, Id, SiteTerms<'_>)> = None;
     let goods = Record::Goods {
         moment: house.time(),
         target: target.bytes(),
@@ -143,7 +143,7 @@ pub fn add_terms<D: Disk>(
             Outcome::Refused(house, taken)
         };
     }
-    let record = terms_record(house.time(), *terms);
+    let record = terms_record(house.time(), terms);
     match house.enter(&record) {
         Outcome::Done(house, receipt) => Outcome::Done(house, Some(receipt)),
         Outcome::Refused(house, refusal) => Outcome::Refused(house, refusal),
@@ -178,15 +178,18 @@ pub fn upgrade<D: Disk>(
 }
 
 /// The record of terms of an issuer above 0.
-fn terms_record<'a>(moment: Moment, terms: Terms) -> Record<'a>
-    requires { 0 < terms.issuer }
+fn terms_record(moment: Moment, terms: &Terms) -> Record<'_>
+    requires { 0 < terms.now.issuer }
     ensures fits { Fits (entry result) }
-    ensures entry { entry result ≡ AddTerms moment terms }
+    ensures entry { entry result ≡ AddTerms moment terms.now }
 {
     // What the moment and the terms know of themselves.
     let _moment = moment.seconds();
-    terms_fit(terms);
-    Record::Terms { moment, terms }
+    terms_fit(*terms);
+    Record::Terms {
+        moment,
+        terms: RecordTerms::of(terms),
+    }
 }
 
 /// Mints 1 to 256 pieces of a value, 1 to 2^40 units, to be sold elsewhere, and puts their lines into an empty
@@ -260,7 +263,7 @@ fn enter_mint<D: Disk>(
         (limits_of house.bench) house.journal.disk h result }
     ensures refusals { IfRefused (IsAmong (33 ∷ [])) result }
 {
-    let _pieces: Option<PieceList<'_>> = None;
+    let _parts: Option<(PieceList<'_>, SiteTerms<'_>)> = None;
     let record = Record::Mint {
         moment: house.time(),
         reference: reference.bytes(),

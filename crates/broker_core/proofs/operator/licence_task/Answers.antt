@@ -12,7 +12,7 @@ returns-else-are_same-clause-exact c h st =
 
 pub returns-clause-exact : goal.returns-clause-exact
 returns-clause-exact c h st =
-    rw c.bytes-2.ensures.value (new_licensed c.args.moment c.args.vendor.now c.args.terms.now _ (rw c.bytes.ensures.value at (c.in_default.ensures h st)))
+    rw (c.bytes-2.ensures.value, c.of.ensures) (new_licensed c.args.moment c.args.vendor.now c.args.terms.now _ (rw c.bytes.ensures.value at (c.in_default.ensures h st)))
 
 pub returns-clause-new : goal.returns-clause-new
 returns-clause-new c h st some = sym (rw c.bytes.ensures.value at (c.in_default.ensures h st))

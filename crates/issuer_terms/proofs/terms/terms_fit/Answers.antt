@@ -7,6 +7,6 @@ pub returns : goal.returns
 returns c =
     let has : HasPeriod c.args.terms.period c.args.terms.life = search rules in
     let byte : c.args.terms.issuer ≤ 255 = omega (arith, c.issuer-issuer.type_inv, c.issuer-issuer.ensures) in
-    let scrip : AreSecrets c.args.terms.scrip = rw (c.list.ensures.value ∙ c.scrip.ensures) at c.secrets_have_keys.ensures in
-    let customer : AreSecrets c.args.terms.customer = rw (c.list-2.ensures.value ∙ c.customer.ensures) at c.secrets_have_keys-2.ensures in
+    let scrip : AreSecrets c.args.terms.scrip = rw (c.scrip.ensures.value) at c.secrets_have_keys.ensures in
+    let customer : AreSecrets c.args.terms.customer = rw (c.customer.ensures.value) at c.secrets_have_keys-2.ensures in
     record { issuer = (c.requires, byte); period = has; scrip = scrip; customer = customer }

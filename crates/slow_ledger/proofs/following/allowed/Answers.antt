@@ -1,5 +1,6 @@
 use Rattle.mc_records.specs.Entry.{Goods, Account, Deposit, Withdraw, Licence, Stock, Upgrade, Switch, Note}
 use Rattle.mc_records.specs.PieceViews.{pieces_of}
+use Rattle.mc_records.specs.TermsViews.{issuing_of}
 use Rattle.slow_ledger.proofs.SlowLaws.{prefix_at}
 use Rattle.slow_ledger.proofs.LawfulSteps.{operators_allowed}
 use Rattle.slow_ledger.proofs.following.allowed.Goals as goal
@@ -26,7 +27,7 @@ returns-in-Withdraw c =
 
 pub returns-in-Licence : goal.returns-in-Licence
 returns-in-Licence c =
-    operators_allowed c.args.h.now c.first-before.result c.args.n c.args.limits c.operator_allowed-in-Licence.result (Licence c.in-Licence.moment c.in-Licence.vendor.now c.in-Licence.terms) c.in-Licence.ensures.found tt c.first-before.ensures c.operator_allowed-in-Licence.ensures
+    operators_allowed c.args.h.now c.first-before.result c.args.n c.args.limits c.operator_allowed-in-Licence.result (Licence c.in-Licence.moment c.in-Licence.vendor.now (issuing_of c.in-Licence.terms)) c.in-Licence.ensures.found tt c.first-before.ensures c.operator_allowed-in-Licence.ensures
 
 pub returns-in-Stock : goal.returns-in-Stock
 returns-in-Stock c =
