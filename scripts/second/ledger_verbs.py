@@ -72,7 +72,7 @@ def full(setting, at):
     return "full %d" % setting.issuer.terms.series(at)
 
 
-def do_issue(setting, words):
+def do_coin(setting, words):
     at, value, cust = setting.arguments(words, moment, up_to(MOST_VALUE), maybe_number)
     issuer = setting.given("issuer")
     ident = issuer.next(at)
@@ -82,7 +82,7 @@ def do_issue(setting, words):
     add(issuer.issued, series_of(ident), value)
     end = issuer.terms.end(issuer.terms.epoch(at))
     props = b"" if cust is None else b"a=1"
-    return ["issue %s %s %d %s" % (id_text(ident), id_text(ident if cust is None else cust), end, shown(props))]
+    return ["coin %s %s %d %s" % (id_text(ident), id_text(ident if cust is None else cust), end, shown(props))]
 
 
 def do_redeem(setting, words):
@@ -148,7 +148,7 @@ def do_held(setting, words):
 
 VERBS = {
     "terms": do_terms, "series": do_series, "certificate": do_certificate, "secret": do_secret, "signed": do_signed,
-    "replied": do_replied, "issuer": do_issuer, "next": do_next, "issue": do_issue, "redeem": do_redeem,
+    "replied": do_replied, "issuer": do_issuer, "next": do_next, "coin": do_coin, "redeem": do_redeem,
     "count": do_count, "kept": do_kept, "keep": do_keep, "find": do_find, "forget": do_forget,
     "held": do_held,
 }

@@ -22,7 +22,7 @@ pub(crate) fn keep_books(
     Some(match verb {
         b"issuer" => begin_issuing(state, args),
         b"next" => next(state, args, out),
-        b"issue" => issue(state, args, out),
+        b"coin" => coin(state, args, out),
         b"redeem" => redeem(state, args, out),
         b"count" => count(state, args, out),
         b"kept" => begin_keeping(state, args),
@@ -72,7 +72,7 @@ fn next(state: &mut State, args: &[&[u8]], out: &mut Lines) -> Result<(), Fault>
     Ok(())
 }
 
-fn issue(state: &mut State, args: &[&[u8]], out: &mut Lines) -> Result<(), Fault> {
+fn coin(state: &mut State, args: &[&[u8]], out: &mut Lines) -> Result<(), Fault> {
     let [now, value, cust] = *args else {
         return Err(Fault::Arguments);
     };
@@ -85,10 +85,10 @@ fn issue(state: &mut State, args: &[&[u8]], out: &mut Lines) -> Result<(), Fault
     let Some(value) = Amount::new(number(value)?) else {
         return Err(Fault::Value);
     };
-    issue_one(issuer(state)?, now, value, cust, out)
+    issue(issuer(state)?, now, value, cust, out)
 }
 
-fn issue_one(
+fn issue(
     issuer: &mut Issuer,
     now: Moment,
     value: Amount,
@@ -110,7 +110,7 @@ fn issue_one(
     };
     issuer.reserve(id.series())?;
     let piece = issuer.issue(now, name, Coin::minted(value), cust, props);
-    out.start("issue");
+    out.start("coin");
     out.identity(piece.id());
     out.identity(piece.cust());
     out.number(piece.expires());
