@@ -144,7 +144,7 @@ fn licence_task<'a>(
 {
     // What the moment and the terms know of themselves.
     let _moment = moment.seconds();
-    terms_fit(*terms);
+    terms_fit(terms);
     if let Some(standing) = desk.licence(vendor.bytes()) {
         return if are_same(standing, terms) {
             Ok(None)

@@ -2,6 +2,7 @@
 
 ghost use Rattle.std.specs.Prelude.{◌≡◌, ◌<◌, ◌^◌, ◌∷◌, ◌++◌, ◌↔◌, [], length, option_map, IfSome, IsTrue, OnOk};
 ghost use Rattle.mc_records.specs.Entry.{moment_of};
+ghost use Rattle.mc_records.specs.TermsViews.{issuing_of};
 ghost use Rattle.mc_records.specs.Views.{entry};
 ghost use Rattle.ledger_model.specs.Histories.{History};
 ghost use Rattle.ledger_model.specs.Houses.{terms_of, all_terms};
@@ -17,7 +18,7 @@ use crate::notes::{
 };
 use house_state::terms_of;
 use mc_base::{Moment, NoMemory};
-use mc_records::Record;
+use mc_records::{Record, RecordTerms};
 use scrip_form::{Name, Terms};
 use settle_core::{Claim, Payment, read_claim, read_payment};
 use std::alloc::Global;
@@ -204,15 +205,15 @@ impl Counts {
 }
 
 /// The terms that an entry brings.
-fn brought(r: &Record<'_>) -> Option<Terms>
-    ensures { result ≡ terms_of (entry r.now) }
+fn brought<'a>(r: &Record<'a>) -> Option<RecordTerms<'a>>
+    ensures { option_map issuing_of result ≡ terms_of (entry r.now) }
 {
     match *r {
         Record::Site { house, .. } => match house {
-            Some(house) => Some(house.terms.terms()),
+            Some(house) => Some(house.terms),
             None => None,
         },
-        Record::Terms { terms, .. } => Some(terms.terms()),
+        Record::Terms { terms, .. } => Some(terms),
         _ => None,
     }
 }
@@ -235,6 +236,6 @@ fn count_terms(terms: &mut Vec<Terms>, r: &Record<'_>)
         → all_terms (h ++ entry r.now ∷ []) ≡ terms.new.items }
 {
     if let Some(more) = brought(r) {
-        terms.push_reserved(more);
+        terms.push_reserved(more.terms());
     }
 }

@@ -16,12 +16,13 @@ pub fn are_same(a: &Terms, b: &Terms) -> bool
 }
 
 /// The terms of an issuer above 0 are as an entry has them.
-pub fn terms_fit(terms: Terms)
-    requires { 0 < terms.issuer }
-    ensures { AreTerms 1 255 terms }
+pub fn terms_fit(terms: &Terms)
+    requires { 0 < terms.now.issuer }
+    ensures { AreTerms 1 255 terms.now }
 {
     // What the parts know of themselves.
     let _issuer = terms.issuer();
+    let _period = terms.period();
     secrets_have_keys(terms.scrip());
     secrets_have_keys(terms.customer());
 }

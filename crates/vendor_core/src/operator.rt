@@ -185,7 +185,7 @@ fn terms_record(moment: Moment, terms: &Terms) -> Record<'_>
 {
     // What the moment and the terms know of themselves.
     let _moment = moment.seconds();
-    terms_fit(*terms);
+    terms_fit(terms);
     Record::Terms {
         moment,
         terms: RecordTerms::of(terms),
