@@ -2,7 +2,7 @@
 
 use crate::program_verbs;
 use case_lines::{Fault, Lines, State, number, tokens};
-use case_wallets::Schedules;
+use case_schedules::Schedules;
 use std::alloc::Global;
 
 /// How far a file was read.
