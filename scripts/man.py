@@ -1,6 +1,6 @@
 #!/usr/bin/env python3
 """Writes the man page `docs/millicent.1` from the tables of the program: the words of each command and what it is
-for (`crates/command_table`), the statuses with their lines (`status.rt`), the refusals (`crates/mc_records`), and the forms of the words
+for (`crates/command_table`), the statuses with their lines (`status.rt`), the refusals (`crates/mc_requests`), and the forms of the words
 (`docs/FORMATS.md`). With `--check` nothing is written: the status is 1 where the page is not what they say. A table that is not
 found, or a row that can't be read, is an error."""
 import re
@@ -10,7 +10,7 @@ from pathlib import Path
 TOP = Path(__file__).resolve().parent.parent
 PAGE = TOP / "docs/millicent.1"
 # Crates that ask the ledger or a cases' line, or play schedules: no command stands over them.
-BESIDE = {"mc_records", "case_lines", "cases", "slow_ledger", "slow_sums", "slow_wallet", "mc_world"}
+BESIDE = {"mc_requests", "case_lines", "cases", "slow_ledger", "slow_sums", "slow_wallet", "mc_world"}
 
 HEAD = r""".\" Written by scripts/man.py from the tables of the program; not by hand.
 .TH MILLICENT 1 "" "Millicent" "User Commands"
@@ -156,7 +156,7 @@ def line_of(text, name, body):
 
 def refusals():
     """The refusals that the program gives: number, name, status in HTTP or 0, and when."""
-    text = source("crates/mc_records/src/refusal.rt")
+    text = source("crates/mc_requests/src/refusal.rt")
     docs = dict(documented(part(text, "pub enum Refusal {", "\n}", "refusal.rt"), r"(\w+)(?:\(.*\))?,", "refusal.rt"))
     rows = re.findall(r'Refusal::(\w+)(?:\(\.\.\))? => Row\((\d+), (\d+), \w+, b"(\w+)"\),', text)
     if len(rows) != len(docs):

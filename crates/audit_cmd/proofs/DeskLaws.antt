@@ -3,7 +3,7 @@ use Rattle.std.proofs.Common.{◌≡◌, ℕ, zero, suc, ◌+◌, ◌<◌, ◌�
 use Rattle.std.specs.List.{AllZip, AllByRecursion}
 use Rattle.std.proofs.lemmas.List.{map-append}
 use Rattle.std.proofs.lemmas.List.Concat.{flat_map-append}
-use Rattle.mc_records.specs.declared.limits.Limits.{Limits}
+use Rattle.mc_requests.specs.declared.limits.Limits.{Limits}
 use Rattle.ledger_model.specs.Histories.{History}
 use Rattle.ledger_model.specs.Houses.{is_broker}
 use Rattle.ledger_model.specs.Stock.{Sale, sales, sold}

@@ -1,7 +1,7 @@
 -- What is found of lawful books, none of which is a wallet's.
 use Rattle.std.proofs.Common.{◌≡◌, ◌<◌, inr, refl, ℕ, zero, suc, Bool, false, List, [], ◌∷◌, length, Some, Result, Err, subst, arith}
 use Rattle.std.specs.Prelude.{IfSome, slice_get}
-use Rattle.mc_records.specs.declared.limits.TheConstants.Limits.{FULL}
+use Rattle.mc_requests.specs.declared.limits.TheConstants.Limits.{FULL}
 use Rattle.ledger_model.specs.Histories.{History}
 use Rattle.audit_search.specs.declared.fault.BooksFault.{BooksFault}
 use Rattle.audit_search.specs.declared.fault.BooksFault.TheVariants as founds

@@ -3,7 +3,7 @@ use Rattle.std.proofs.Common.{◌≡◌, inl, inr, ℕ, Bool, true, false, ◌||
 use Rattle.std.specs.List.{AllZip, AllByRecursion, list_any}
 use Rattle.mc_outside.specs.DiskView.{DiskView}
 use Rattle.mc_records.specs.Entry.{Entry, Site}
-use Rattle.mc_records.specs.declared.limits.TheConstants.Limits.{FULL}
+use Rattle.mc_requests.specs.declared.limits.TheConstants.Limits.{FULL}
 use Rattle.ledger_model.specs.Histories.{History}
 use Rattle.wallet_model.specs.Follows.{is_wallet, IsWalletBook, wallet_allows}
 use Rattle.audit_sums.specs.declared.audit_sums.BookSums.{BookSums}

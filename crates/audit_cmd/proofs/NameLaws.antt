@@ -6,7 +6,7 @@ use Rattle.std.proofs.lemmas.List.{map-append}
 use Rattle.std.proofs.lemmas.List.Folds.{list_any-append}
 use Rattle.std.proofs.lemmas.List.Concat.{flat_map-append}
 use Rattle.std.proofs.lemmas.List.Elements.{filter-append}
-use Rattle.mc_records.specs.declared.limits.Limits.{Limits}
+use Rattle.mc_requests.specs.declared.limits.Limits.{Limits}
 use Rattle.ledger_model.specs.Histories.{History}
 use Rattle.ledger_model.specs.Houses.{site_name, is_broker}
 use Rattle.ledger_model.specs.Stock.{Sale, sales}

@@ -3,8 +3,8 @@ use Rattle.std.proofs.Common.{[], ◌∷◌, Err}
 use Rattle.std.specs.List.{AllByRecursion}
 use Rattle.mc_records.specs.Entry.{Entry, Fits}
 use Rattle.mc_records.specs.Following.{AllFollowBy}
-use Rattle.mc_records.specs.declared.limits.Limits.{Limits}
-use Rattle.mc_records.specs.declared.limits.TheConstants.Limits.{FULL}
+use Rattle.mc_requests.specs.declared.limits.Limits.{Limits}
+use Rattle.mc_requests.specs.declared.limits.TheConstants.Limits.{FULL}
 use Rattle.ledger_model.specs.Histories.{History}
 use Rattle.ledger_model.specs.Houses.{IsHouseKind}
 use Rattle.ledger_model.specs.Lawful.{MayFollow, IsLawful}

@@ -1,7 +1,7 @@
 -- What an audit of the books of brokers and of vendors answers, by their histories.
 use Rattle.std.specs.Prelude.{◌≡◌, ℕ, true, false, List, [], flat_map, bytes_eq, Some, slice_get, Result, Ok, Err}
 use Rattle.std.specs.List.{list_any, AllByRecursion}
-use Rattle.mc_records.specs.declared.limits.Limits.{Limits}
+use Rattle.mc_requests.specs.declared.limits.Limits.{Limits}
 use Rattle.ledger_model.specs.Histories.{History}
 use Rattle.ledger_model.specs.Houses.{site_name}
 use Rattle.ledger_model.specs.Stock.{sales}

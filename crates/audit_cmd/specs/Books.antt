@@ -3,7 +3,7 @@ use Rattle.std.specs.Prelude.{◌≡◌, ◌⊎◌, ℕ, suc, IsTrue, List, map,
 use Rattle.std.specs.List.{AllZip, AllByRecursion, list_any}
 use Rattle.mc_outside.specs.Bytes.{BeginsWith, Rose}
 use Rattle.mc_outside.specs.DiskView.{DiskView}
-use Rattle.mc_records.specs.declared.limits.TheConstants.Limits.{FULL}
+use Rattle.mc_requests.specs.declared.limits.TheConstants.Limits.{FULL}
 use Rattle.ledger_model.specs.Histories.{History}
 use Rattle.ledger_model.specs.Lawful.{IsLawful}
 use Rattle.scrip_journal.specs.Layout.{header, Encodes}

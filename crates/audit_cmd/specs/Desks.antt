@@ -1,7 +1,7 @@
 -- The books of brokers with what they have of vendors to sell, and the places of the vendors.
 use Rattle.std.specs.Prelude.{◌≡◌, ℕ, true, false, not, IsTrue, if◌then◌else◌, List, [], map, filter, filter_map, flat_map, Option, Some, None, is_some}
 use Rattle.std.specs.List.{AllZip, AllByRecursion}
-use Rattle.mc_records.specs.declared.limits.Limits.{Limits}
+use Rattle.mc_requests.specs.declared.limits.Limits.{Limits}
 use Rattle.name_places.specs.NamePlaces.{NamePlacesView, place_of}
 use Rattle.ledger_model.specs.Histories.{History}
 use Rattle.ledger_model.specs.Houses.{is_broker}

@@ -2,7 +2,7 @@
 use Rattle.std.specs.Prelude.{[]}
 use Rattle.mc_records.specs.Entry.{Entry}
 use Rattle.mc_records.specs.Chains.{TellsChain}
-use Rattle.mc_records.specs.declared.limits.TheConstants.Limits.{FULL}
+use Rattle.mc_requests.specs.declared.limits.TheConstants.Limits.{FULL}
 use Rattle.ledger_model.specs.Histories.{History}
 use Rattle.ledger_model.specs.Lawful.{MayFollow}
 use Rattle.book_opening.specs.Opener.{IsSite}

@@ -1,7 +1,7 @@
 -- What is found of all books.
 use Rattle.std.specs.Prelude.{◌≡◌, not, List, map, filter, Option, None, Some, slice_get, Result, Ok, Err}
 use Rattle.std.specs.List.{AllByRecursion}
-use Rattle.mc_records.specs.declared.limits.Limits.{Limits}
+use Rattle.mc_requests.specs.declared.limits.Limits.{Limits}
 use Rattle.name_places.specs.NamePlaces.{NamePlacesView}
 use Rattle.ledger_model.specs.Histories.{History}
 use Rattle.ledger_model.specs.Houses.{is_broker}

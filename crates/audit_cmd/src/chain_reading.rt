@@ -8,7 +8,8 @@ ghost use Rattle.audit_cmd.specs.Chains.{ReadsChain};
 
 use book_opening::{Opener, open_book};
 use mc_outside::Disk;
-use mc_records::{Limits, PieceList, Record};
+use mc_records::{PieceList, Record};
+use mc_requests::Limits;
 use scrip_form::Name;
 use scrip_journal::{HouseFault, LearnFault};
 use std::alloc::Global;
@@ -40,7 +41,7 @@ impl Opener for ChainReader {
     }
 
     fn begin(self, alloc: Global, first: &Record<'_>) -> Result<Name, LearnFault> {
-        let _pieces: Option<PieceList<'_>> = None;
+        let _parts: Option<PieceList<'_>> = None;
         match first {
             Record::Site { name, .. } => Ok(Name::new(name).unwrap()),
             _ => unreachable!(),

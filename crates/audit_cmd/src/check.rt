@@ -1,7 +1,7 @@
 //! The check of one book.
 
 ghost use Rattle.std.specs.Prelude.{◌≡◌, ◌++◌, List, ℕ, Option as Maybe, false, true, filter, option_and_then, IfOk, OnOk};
-ghost use Rattle.mc_records.specs.declared.limits.Limits.{Limits as Bounds};
+ghost use Rattle.mc_requests.specs.declared.limits.Limits.{Limits as Bounds};
 ghost use Rattle.ledger_model.specs.Histories.{History};
 ghost use Rattle.ledger_model.specs.Houses.{site_name, is_broker};
 ghost use Rattle.ledger_model.specs.Stock.{sales};

@@ -5,7 +5,7 @@ ghost use Rattle.mc_records.specs.Chains.{TellsChain};
 ghost use Rattle.mc_records.specs.Entry.{Entry, Fits};
 ghost use Rattle.mc_records.specs.Sizes.{size, entry_size};
 ghost use Rattle.mc_records.specs.Views.{entry};
-ghost use Rattle.mc_records.specs.declared.limits.TheConstants.Limits.{MOST_JOURNAL};
+ghost use Rattle.mc_requests.specs.declared.limits.TheConstants.Limits.{MOST_JOURNAL};
 ghost use Rattle.ledger_model.specs.Histories.{History};
 ghost use Rattle.ledger_model.specs.Lawful.{MayFollow};
 ghost use Rattle.ledger_model.specs.Pieces.{accepted_piece};
@@ -23,7 +23,8 @@ use audit_sums::BookSums;
 use house_core::{Bench, SpentPiece};
 use house_state::Trade;
 use mc_base::NoMemory;
-use mc_records::{Limits, Record};
+use mc_records::Record;
+use mc_requests::Limits;
 use scrip_journal::LearnFault;
 use std::alloc::Global;
 

@@ -13,7 +13,7 @@ use audit_report::{report_json, report_text};
 use command_status::Status;
 use mc_base::{List, NoMemory};
 use mc_outside::Disk;
-use mc_records::Refusal;
+use mc_requests::Refusal;
 use std::alloc::Global;
 
 /// Audits the books that the disks have and tells how that ended: with the report, as one line of JSON or as lines of text,

@@ -1,7 +1,7 @@
 //! The sums of all books.
 
 ghost use Rattle.std.specs.Prelude.{◌≡◌, ◌++◌, ◌∷◌, [], ◌+◌, List, length, if◌then◌else◌, OnOk};
-ghost use Rattle.mc_records.specs.declared.limits.Limits.{Limits as Bounds};
+ghost use Rattle.mc_requests.specs.declared.limits.Limits.{Limits as Bounds};
 ghost use Rattle.ledger_model.specs.Histories.{History};
 ghost use Rattle.audit_search.specs.Checks.{is_desk, row_with};
 ghost use Rattle.audit_cmd.specs.Rows.{broker_row};

@@ -14,8 +14,8 @@ use Rattle.scrip_form.specs.Scrip.{Scrip, scrip_body, text_version, IsScripText}
 use Rattle.scrip_form.specs.Reading.{scrip_of, scrip_at, id_at}
 use Rattle.scrip_form.proofs.Laws.{is_text_of}
 use Rattle.scrip_certs.specs.Digests.{digest, certificate, customer_secret, request_signature}
-use Rattle.mc_records.specs.declared.limits.Limits.{Limits}
-use Rattle.mc_records.specs.Errands.{errand_of}
+use Rattle.mc_requests.specs.declared.limits.Limits.{Limits}
+use Rattle.mc_requests.specs.Errands.{errand_of}
 use Rattle.mc_records.specs.Entry.{goods_deed, sale, Held, Entry, Site, AddTerms, Goods, Accept, Mint, Account, Deposit, Draw, Licence, Stock, AreSecrets, AreTerms, Fits}
 use Rattle.mc_records.specs.Sizes.{tail, tail_size}
 use Rattle.ledger_model.specs.Histories.{History}

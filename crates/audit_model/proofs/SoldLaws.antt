@@ -6,7 +6,7 @@ use Rattle.std.proofs.lemmas.List.Sums.{sum_by-cons}
 use Rattle.std.proofs.lemmas.Option.{same_Some}
 use Rattle.scrip_form.specs.Issuing.{Issuing}
 use Rattle.scrip_form.specs.Scrip.{Scrip}
-use Rattle.mc_records.specs.declared.limits.Limits.{Limits}
+use Rattle.mc_requests.specs.declared.limits.Limits.{Limits}
 use Rattle.mc_records.specs.Entry.{Entry, Licence, Fits, moment_of}
 use Rattle.ledger_model.specs.Histories.{History}
 use Rattle.ledger_model.specs.Stock.{is_licence_of, licence_terms, licence_in, Sale, sale_of, sales, is_licensed, sold_piece, licensed_sold}

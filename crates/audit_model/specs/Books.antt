@@ -1,7 +1,7 @@
 -- The books of one broker and of vendors, what was handed out of them, and the sum of all money.
 use Rattle.std.specs.Prelude.{◌≡◌, ℕ, ◌+◌, IsTrue, IsFalse, List, [], ◌∷◌, Some, sum_by, bytes_eq}
 use Rattle.std.specs.List.{list_any, AllByRecursion}
-use Rattle.mc_records.specs.declared.limits.Limits.{Limits}
+use Rattle.mc_requests.specs.declared.limits.Limits.{Limits}
 use Rattle.mc_records.specs.Entry.{Fits}
 use Rattle.ledger_model.specs.declared.numbers.TheConstants.{VENDOR_KIND, BROKER_KIND}
 use Rattle.ledger_model.specs.Histories.{History}

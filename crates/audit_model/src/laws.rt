@@ -1,7 +1,7 @@
 //! Laws over the books of a broker and of vendors, each on a function that does nothing.
 
 ghost use Rattle.std.specs.Prelude.{◌≡◌, ◌+◌, ◌^◌, ◌≤◌, List, [], ◌∷◌, ◌++◌, None};
-ghost use Rattle.mc_records.specs.declared.limits.Limits.{Limits as Bounds};
+ghost use Rattle.mc_requests.specs.declared.limits.Limits.{Limits as Bounds};
 ghost use Rattle.mc_records.specs.Entry.{Entry};
 ghost use Rattle.scrip_form.specs.Scrip.{Scrip};
 ghost use Rattle.ledger_model.specs.Histories.{History};

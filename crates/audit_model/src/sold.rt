@@ -5,7 +5,8 @@ ghost use Rattle.mc_records.specs.Views.{entry};
 ghost use Rattle.ledger_model.specs.Stock.{sale_of};
 ghost use Rattle.audit_model.specs.Sales.{sale_by};
 
-use mc_records::{Errand, Record, RecordDeed, errands_are_texts, read_errand};
+use mc_records::{Record, RecordDeed};
+use mc_requests::{Errand, errands_are_texts, read_errand};
 use scrip_form::{Id, Name};
 
 /// What a broker sold: of which vendor, of what value in units, out of stock or under a licence, and under which

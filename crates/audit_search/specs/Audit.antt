@@ -1,7 +1,7 @@
 -- What an audit of books answers, by their histories.
 use Rattle.std.specs.Prelude.{◌≡◌, ℕ, Bool, true, false, List, [], ◌∷◌, map, bytes_eq, None, Some, slice_get, Result, Ok, Err}
 use Rattle.std.specs.List.{list_any, AllByRecursion}
-use Rattle.mc_records.specs.declared.limits.Limits.{Limits}
+use Rattle.mc_requests.specs.declared.limits.Limits.{Limits}
 use Rattle.mc_records.specs.Entry.{Fits}
 use Rattle.ledger_model.specs.Histories.{History}
 use Rattle.ledger_model.specs.Houses.{site_name}

@@ -1,7 +1,7 @@
 //! The audit of books of which all was learned.
 
 ghost use Rattle.std.specs.Prelude.{◌≤◌, ◌^◌, List as Items, IfOk};
-ghost use Rattle.mc_records.specs.declared.limits.Limits.{Limits as Bounds};
+ghost use Rattle.mc_requests.specs.declared.limits.Limits.{Limits as Bounds};
 ghost use Rattle.ledger_model.specs.Histories.{History};
 ghost use Rattle.audit_search.specs.Audit.{AreLearned, Audited, NamesBook};
 ghost use Rattle.audit_search.specs.Findings.{Finds, IsReportOf};

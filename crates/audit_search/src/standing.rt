@@ -1,7 +1,7 @@
 //! The shops at a broker, as what the histories say of them.
 
 ghost use Rattle.std.specs.Prelude.{◌≡◌, List as Items, filter, not, is_some, IfOk, MatchOption};
-ghost use Rattle.mc_records.specs.declared.limits.Limits.{Limits as Bounds};
+ghost use Rattle.mc_requests.specs.declared.limits.Limits.{Limits as Bounds};
 ghost use Rattle.ledger_model.specs.Histories.{History};
 ghost use Rattle.ledger_model.specs.Houses.{is_broker};
 ghost use Rattle.audit_search.specs.Markets.{own_names};

@@ -41,7 +41,7 @@ impl BookSums {
         requires site { IsHouseSite (entry site.now) }
         ensures { SumsRepresent result (entry site.now ∷ []) }
     {
-        let _pieces: Option<PieceList<'_>> = None;
+        let _parts: Option<PieceList<'_>> = None;
         match site {
             Record::Site {
                 moment,

@@ -15,7 +15,8 @@ ghost use Rattle.audit_sums.specs.Rows.{acceptance_of, run_of};
 
 use crate::rows::{Acceptance, Run};
 use audit_model::{Part, Sold};
-use mc_records::{Errand, Record, RecordDeed, read_errand};
+use mc_records::{Record, RecordDeed};
+use mc_requests::{Errand, read_errand};
 use scrip_form::{Id, Terms};
 
 // ---- money

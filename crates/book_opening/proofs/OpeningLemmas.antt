@@ -5,7 +5,7 @@ use Rattle.mc_outside.proofs.Runs.{read_then}
 use Rattle.mc_records.specs.Entry.{Entry}
 use Rattle.mc_records.specs.Following.{AllFollowBy}
 use Rattle.mc_records.specs.Sizes.{size, entry_size}
-use Rattle.mc_records.specs.declared.limits.TheConstants.Limits.{MOST_JOURNAL}
+use Rattle.mc_requests.specs.declared.limits.TheConstants.Limits.{MOST_JOURNAL}
 use Rattle.scrip_journal.specs.Layout.{Encodes, IsSpoiled, IsUnchained}
 use Rattle.scrip_journal.specs.States.{Reading, IsReading}
 use Rattle.scrip_journal.specs.Replays.{Finds, IsMalformed, ReadsOn}

@@ -4,7 +4,7 @@ use Rattle.mc_outside.specs.Bytes.{BeginsWith, Rose}
 use Rattle.mc_outside.specs.DiskView.{DiskView, OnlyRead}
 use Rattle.mc_records.specs.Entry.{Entry}
 use Rattle.mc_records.specs.Following.{AllFollowBy}
-use Rattle.mc_records.specs.declared.limits.TheConstants.Limits.{MOST_JOURNAL}
+use Rattle.mc_requests.specs.declared.limits.TheConstants.Limits.{MOST_JOURNAL}
 use Rattle.scrip_journal.specs.Layout.{header, Encodes}
 use Rattle.scrip_journal.specs.States.{AtRest, Reading, IsJournal, IsReading}
 use Rattle.scrip_journal.specs.Founds.{fault_disk}

@@ -5,7 +5,7 @@ ghost use Rattle.mc_records.specs.Chains.{chain, is_switch};
 ghost use Rattle.mc_records.specs.Entry.{Entry, Fits};
 ghost use Rattle.mc_records.specs.Sizes.{size, entry_size};
 ghost use Rattle.mc_records.specs.Views.{entry};
-ghost use Rattle.mc_records.specs.declared.limits.TheConstants.Limits.{MOST_JOURNAL};
+ghost use Rattle.mc_requests.specs.declared.limits.TheConstants.Limits.{MOST_JOURNAL};
 ghost use Rattle.scrip_journal.specs.Causes.{FoundsSite};
 ghost use Rattle.book_opening.specs.Opener.{OpenerView, Learns, IsSite};
 

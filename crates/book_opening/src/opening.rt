@@ -3,7 +3,7 @@
 ghost use Rattle.std.specs.Prelude.{◌≡◌, [], List, ℕ, IfOk, OnOk, None, Some, MatchResult};
 ghost use Rattle.mc_outside.specs.DiskView.{OnlyRead};
 ghost use Rattle.mc_records.specs.Entry.{Fits};
-ghost use Rattle.mc_records.specs.Limits.{AreInRange};
+ghost use Rattle.mc_requests.specs.Limits.{AreInRange};
 ghost use Rattle.mc_records.specs.Views.{entry};
 ghost use Rattle.scrip_journal.specs.States.{IsReading};
 ghost use Rattle.scrip_journal.specs.declared.cursor.TheConstants.{FIRST_GATE};
@@ -12,7 +12,8 @@ ghost use Rattle.book_opening.specs.Opening.{opened_disk, CountedBy, OpensBook, 
 
 use crate::opener::Opener;
 use mc_outside::Disk;
-use mc_records::{Limits, Record};
+use mc_records::Record;
+use mc_requests::Limits;
 use scrip_journal::{
     FIRST_GATE, HouseFault, Journal, LearnFault, OpenFault, Replay, ReplayFault, open_journal,
 };

@@ -1,7 +1,7 @@
 -- The worked rows of an account by computation: 1000 units, from which 300 are drawn under order 5.
 use Rattle.std.proofs.Common.{◌≡◌, ℕ, ◌-◌, ◌^◌, List, [], ◌∷◌, Some, None, refl}
 use Rattle.std.specs.Prelude.{codes, option_map}
-use Rattle.mc_records.specs.declared.refusal.Refusal.TheVariants.{NoAccount, StaleOrder, PoorAccount, AccountFull}
+use Rattle.mc_requests.specs.declared.refusal.Refusal.TheVariants.{NoAccount, StaleOrder, PoorAccount, AccountFull}
 use Rattle.broker_accounts.specs.Accounts.{AccountView, account_of, balances, changed, new_account, credited, debited, drawn, put_refusal, withdraw_refusal, draw_refusal}
 
 abbrev ann : List ℕ

@@ -2,8 +2,8 @@
 use Rattle.std.specs.Prelude.{ℕ, ◌+◌, ◌-◌, nat_lt, nat_le, Bool, List, [], ◌∷◌, map, find, sum_by, bytes_eq, if◌then◌else◌, IsFalse, Option, Some, None}
 use Rattle.std.specs.List.{list_any}
 use Rattle.mc_records.specs.declared.ranges.TheConstants.{MOST_IN_ACCOUNT}
-use Rattle.mc_records.specs.declared.refusal.Refusal.{Refusal}
-use Rattle.mc_records.specs.declared.refusal.Refusal.TheVariants.{NoAccount, StaleOrder, PoorAccount, AccountFull}
+use Rattle.mc_requests.specs.declared.refusal.Refusal.{Refusal}
+use Rattle.mc_requests.specs.declared.refusal.Refusal.TheVariants.{NoAccount, StaleOrder, PoorAccount, AccountFull}
 
 -- one account: its name and its key, what stands in it, and its last order, 0 before the first
 pub record AccountView : Type 0 where

@@ -1,12 +1,13 @@
 ghost use Rattle.std.specs.Prelude.{◌≡◌, ◌+◌, ◌≤◌, ◌↔◌, ◌∷◌, ◌++◌, [], Some, None, position, option_map, IsSome, IsErr, IfSome, IfErr, IfOk, OnOk, OnErr};
 ghost use Rattle.std.specs.Result.{result_err};
 ghost use Rattle.mc_records.specs.declared.ranges.TheConstants.{MOST_IN_ACCOUNT};
-ghost use Rattle.mc_records.specs.declared.refusal.Refusal.TheVariants as refusals;
+ghost use Rattle.mc_requests.specs.declared.refusal.Refusal.TheVariants as refusals;
 ghost use Rattle.broker_accounts.specs.Accounts.{account_of, is_named, balances, AreNamedApart, new_account, credited, debited, drawn, changed, put_refusal, withdraw_refusal, draw_refusal};
 
 use crate::account::Account;
 use mc_base::{Amount, Coin, NoMemory};
-use mc_records::{MOST_IN_ACCOUNT, Refusal};
+use mc_records::MOST_IN_ACCOUNT;
+use mc_requests::Refusal;
 use name_places::NamePlaces;
 use scrip_form::Name;
 use std::alloc::Global;

@@ -3,8 +3,8 @@ use Rattle.std.proofs.Common.{◌≡◌, ℕ, List, true, false, Option, Some, N
 use Rattle.std.proofs.lemmas.Option.{none-some}
 use Rattle.mc_outside.specs.DiskView.{DiskView, IsDisk}
 use Rattle.mc_outside.proofs.Runs.{ran_none}
-use Rattle.mc_records.specs.declared.limits.Limits.{Limits}
-use Rattle.mc_records.specs.declared.refusal.Refusal.TheVariants.{NoAccount}
+use Rattle.mc_requests.specs.declared.limits.Limits.{Limits}
+use Rattle.mc_requests.specs.declared.refusal.Refusal.TheVariants.{NoAccount}
 use Rattle.ledger_model.specs.Histories.{History}
 use Rattle.ledger_model.specs.Accounts.{key_in, balance}
 use Rattle.broker_ledger.specs.declared.broker_ledger.Standing.{Standing}

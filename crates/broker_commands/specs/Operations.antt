@@ -1,7 +1,7 @@
 -- What the operations of a broker's operator mean.
 use Rattle.std.specs.Prelude.{◌≡◌, ◌++◌, ℕ, List, [], length, Some, None, Result, Ok, Err, is_some, if◌then◌else◌, codes, decimal, ◌∷◌}
 use Rattle.scrip_form.specs.Issuing.{Issuing}
-use Rattle.mc_records.specs.declared.refusal.Refusal.TheVariants.{NoAccount, BadInput}
+use Rattle.mc_requests.specs.declared.refusal.Refusal.TheVariants.{NoAccount, BadInput}
 use Rattle.ledger_model.specs.Histories.{History}
 use Rattle.ledger_model.specs.Accounts.{key_in, balance}
 use Rattle.house_core.specs.Tasks.{Task, Stays, Refuse, after}

@@ -12,7 +12,7 @@ ghost use Rattle.broker_commands.specs.Operations.{balance_words, balance_operat
 use broker_core::Desk;
 use house_core::{House, Outcome};
 use mc_outside::Disk;
-use mc_records::Refusal;
+use mc_requests::Refusal;
 use said_lines::{end_line, lay_bare};
 use site_words::Inquiry;
 

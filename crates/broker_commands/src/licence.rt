@@ -14,7 +14,7 @@ use broker_core::{Desk, add_licence};
 use house_core::{House, Outcome};
 use licence_lines::read_licence_line;
 use mc_outside::Disk;
-use mc_records::Refusal;
+use mc_requests::Refusal;
 use operator_command::without_answer;
 use said_lines::lay_bare;
 

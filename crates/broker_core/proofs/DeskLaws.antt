@@ -5,15 +5,15 @@ use Rattle.std.specs.Prelude.{is_some, ◌==◌, ◌↔◌}
 use Rattle.std.proofs.lemmas.Option.{same_Some}
 use Rattle.std.specs.List.{list_any}
 use Rattle.std.proofs.lemmas.Bool.{eq-eqb, false≢true}
-use Rattle.mc_records.specs.declared.limits.Limits.{Limits}
-use Rattle.mc_records.specs.declared.refusal.Refusal.TheVariants.{NoSuchGoods}
+use Rattle.mc_requests.specs.declared.limits.Limits.{Limits}
+use Rattle.mc_requests.specs.declared.refusal.Refusal.TheVariants.{NoSuchGoods}
 use Rattle.mc_records.specs.Views.{entry}
 use Rattle.mc_records.specs.declared.piece_list.PieceList.{PieceList}
 use Rattle.mc_records.specs.declared.record.Record.{Record}
 use Rattle.mc_records.specs.declared.terms.RecordTerms.{RecordTerms}
 use Rattle.mc_records.specs.declared.record.Record.TheVariants as records
-use Rattle.mc_records.specs.Errands.{Errand, buy, pay_in, draw, errand_of}
-use Rattle.mc_records.proofs.ErrandLaws.{errand_told}
+use Rattle.mc_requests.specs.Errands.{Errand, buy, pay_in, draw, errand_of}
+use Rattle.mc_requests.proofs.ErrandLaws.{errand_told}
 use Rattle.mc_records.specs.Entry.{Deed, Entry, Site, AddTerms, Goods, Accept, Mint, Account, Deposit, Withdraw, Draw, Licence, Stock, Upgrade}
 use Rattle.ledger_model.specs.declared.numbers.TheConstants.{BROKER_KIND}
 use Rattle.ledger_model.specs.Histories.{History}

@@ -2,12 +2,12 @@
 use Rattle.std.proofs.Common.{◌≡◌, ℕ, ◌≤◌, [], ◌∷◌, ◌++◌, eqb, List, Option, Some, None, Result, Ok, Err, refl, sym, ap, subst, ◌∙◌}
 use Rattle.std.specs.Prelude.{option_map, unwrap_or, IfOk, IfSome, IsSome, IsNone, IsTrue, true, false}
 use Rattle.mc_outside.specs.DiskView.{DiskView, Ran}
-use Rattle.mc_records.specs.declared.limits.Limits.{Limits}
+use Rattle.mc_requests.specs.declared.limits.Limits.{Limits}
 use Rattle.mc_records.specs.declared.record.Record.{Record}
 use Rattle.scrip_form.specs.Issuing.{Issuing}
 use Rattle.issuer_terms.specs.Terms.{are_same_terms}
-use Rattle.mc_records.specs.declared.refusal.Refusal.{Refusal}
-use Rattle.mc_records.specs.declared.refusal.Refusal.TheVariants.{LicenceTwice}
+use Rattle.mc_requests.specs.declared.refusal.Refusal.{Refusal}
+use Rattle.mc_requests.specs.declared.refusal.Refusal.TheVariants.{LicenceTwice}
 use Rattle.mc_records.specs.Entry.{Entry, Account, Deposit, Withdraw, Licence, Fits, moment_of}
 use Rattle.mc_records.specs.Views.{entry}
 use Rattle.ledger_model.specs.declared.numbers.TheConstants.{BROKER_KIND}

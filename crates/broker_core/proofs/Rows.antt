@@ -2,7 +2,7 @@
 use Rattle.std.proofs.Common.{◌≡◌, [], ◌∷◌, ◌++◌, ℕ, List, Some, None, refl}
 use Rattle.std.specs.Prelude.{codes}
 use Rattle.scrip_form.specs.Issuing.{Issuing}
-use Rattle.mc_records.specs.declared.refusal.Refusal.TheVariants.{BadInput, LicenceTwice, NoTerms, VersionSet, TooEarly}
+use Rattle.mc_requests.specs.declared.refusal.Refusal.TheVariants.{BadInput, LicenceTwice, NoTerms, VersionSet, TooEarly}
 use Rattle.mc_records.specs.Entry.{Site, Licence, Upgrade}
 use Rattle.ledger_model.specs.Histories.{History}
 use Rattle.ledger_model.specs.declared.numbers.TheConstants.{BROKER_KIND}

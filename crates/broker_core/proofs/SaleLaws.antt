@@ -4,11 +4,11 @@ use Rattle.std.specs.Prelude.{option_and_then, IfOk}
 use Rattle.scrip_form.specs.Identities.{series_of}
 use Rattle.scrip_form.specs.Issuing.{Issuing, series_at}
 use Rattle.scrip_form.specs.Scrip.{Scrip, scrip_body, scrip_text}
-use Rattle.mc_records.specs.Errands.{Errand, buy, errand_of}
+use Rattle.mc_requests.specs.Errands.{Errand, buy, errand_of}
 use Rattle.mc_records.specs.Entry as entries
 use Rattle.mc_records.specs.Entry.{Held}
-use Rattle.mc_records.specs.declared.refusal.Refusal.TheVariants.{NoVendor, NoStock}
-use Rattle.mc_records.specs.declared.refusal.Refusal.{Refusal}
+use Rattle.mc_requests.specs.declared.refusal.Refusal.TheVariants.{NoVendor, NoStock}
+use Rattle.mc_requests.specs.declared.refusal.Refusal.{Refusal}
 use Rattle.kept_replies.specs.declared.deed.Deed.{Deed}
 use Rattle.kept_replies.specs.declared.deed.Deed.TheVariants as kept
 use Rattle.ledger_model.specs.Histories.{History}

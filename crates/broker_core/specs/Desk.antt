@@ -1,6 +1,6 @@
 -- What a desk represents.
 use Rattle.std.specs.Prelude.{◌≡◌, ℕ, false, List, [], Option, Some, None, option_map, unwrap_or, Result}
-use Rattle.mc_records.specs.Errands.{Errand, pay_in}
+use Rattle.mc_requests.specs.Errands.{Errand, pay_in}
 use Rattle.mc_records.specs.Entry.{Entry, Site, Accept, Account, Deposit, Withdraw, Draw, Licence, Stock, Upgrade, Switch, Note}
 use Rattle.ledger_model.specs.Histories.{History}
 use Rattle.ledger_model.specs.Houses.{fee}

@@ -2,8 +2,8 @@
 use Rattle.std.specs.Prelude.{◌≡◌, ◌==◌, ◌||◌, nat_lt, ℕ, if◌then◌else◌, List, [], length, find, count_by, Bool, Option, Some, None, option_map, Result, Ok, Err}
 use Rattle.std.specs.List.{list_any}
 use Rattle.scrip_form.specs.Issuing.{Issuing}
-use Rattle.mc_records.specs.declared.refusal.Refusal.{Refusal}
-use Rattle.mc_records.specs.declared.refusal.Refusal.TheVariants.{BadInput, StockTwice, LicenceTwice}
+use Rattle.mc_requests.specs.declared.refusal.Refusal.{Refusal}
+use Rattle.mc_requests.specs.declared.refusal.Refusal.TheVariants.{BadInput, StockTwice, LicenceTwice}
 use Rattle.mc_records.specs.Pieces.{pieces_bytes}
 use Rattle.mc_records.specs.Entry.{Held, Entry, Licence, Stock, Fits, moment_of}
 use Rattle.ledger_model.specs.Histories.{History}

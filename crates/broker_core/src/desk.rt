@@ -6,7 +6,7 @@ ghost use Rattle.ledger_model.specs.Stock.{licence_in, licensed_count, knows_ven
 ghost use Rattle.ledger_model.specs.Lines.{as_line};
 ghost use Rattle.ledger_model.specs.Stages.{supplied, sale_by};
 ghost use Rattle.ledger_model.specs.Answer.{supply_of};
-ghost use Rattle.mc_records.specs.Errands.{buy, errand_of};
+ghost use Rattle.mc_requests.specs.Errands.{buy, errand_of};
 ghost use Rattle.mc_records.specs.Views.{entry};
 ghost use Rattle.broker_ledger.specs.Ledger.{Represents, HasRoom, AccountsAnswer};
 ghost use Rattle.broker_stalls.specs.Shown.{Shows};
@@ -26,9 +26,8 @@ use broker_stalls::{Purchase, Stall, Stalls, bought, stalls_follow};
 use house_state::{Body, DrawAsk, Offer, SiteKind, Trade, Unlawful, body_of_deed};
 use kept_replies::Deed;
 use mc_base::{Amount, Moment, NoMemory};
-use mc_records::{
-    Errand, Limits, MOST_IN_ACCOUNT, Record, Refusal, errands_are_texts, read_errand,
-};
+use mc_records::{MOST_IN_ACCOUNT, Record};
+use mc_requests::{Errand, Limits, Refusal, errands_are_texts, read_errand};
 use scrip_form::{Name, Terms};
 use std::alloc::Global;
 

@@ -3,7 +3,7 @@
 ghost use Rattle.std.specs.Prelude.{◌≡◌, ◌<◌, ◌≤◌, ◌^◌, ℕ, List, Some, Ok, false, IfOk, IfErr};
 ghost use Rattle.scrip_form.specs.Issuing.{HasPeriod, series_at};
 ghost use Rattle.scrip_form.specs.Scrip.{IsPiece, IsVersion};
-ghost use Rattle.mc_records.specs.Errands.{buy, errand_of};
+ghost use Rattle.mc_requests.specs.Errands.{buy, errand_of};
 ghost use Rattle.ledger_model.specs.Histories.{History};
 ghost use Rattle.ledger_model.specs.Houses.{version_by};
 ghost use Rattle.ledger_model.specs.Stock.{licence_in, licensed_count, knows_vendor, for_sale, licensed_piece};
@@ -21,7 +21,7 @@ use crate::moves::Moves;
 use broker_stalls::{Purchase, Stall, StockPiece};
 use kept_replies::Deed;
 use mc_base::Moment;
-use mc_records::{Limits, Refusal};
+use mc_requests::{Limits, Refusal};
 use scrip_certs::{certificate_of, customer_secret};
 use scrip_form::{Id, Piece, Terms};
 

@@ -10,7 +10,8 @@ ghost use Rattle.broker_stalls.specs.Vendors.{found_stall};
 ghost use Rattle.broker_core.specs.Tasks.{stands_twice, stock_lines, stock_refusal};
 
 use broker_stalls::Stall;
-use mc_records::{MOST_PIECES, Refusal};
+use mc_records::MOST_PIECES;
+use mc_requests::Refusal;
 use piece_lines::{PieceRule, read_piece_ids};
 use scrip_form::{Id, Name};
 

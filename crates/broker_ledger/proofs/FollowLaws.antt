@@ -10,8 +10,8 @@ use Rattle.scrip_form.specs.Reading.{scrip_of}
 use Rattle.scrip_form.specs.Told.{IsTold}
 use Rattle.scrip_form.proofs.Laws.{scrip_of_tells}
 use Rattle.mc_records.specs.declared.ranges.TheConstants.{MOST_IN_ACCOUNT}
-use Rattle.mc_records.specs.declared.limits.Limits.{Limits}
-use Rattle.mc_records.specs.Errands.{Errand, errand_of}
+use Rattle.mc_requests.specs.declared.limits.Limits.{Limits}
+use Rattle.mc_requests.specs.Errands.{Errand, errand_of}
 use Rattle.mc_records.specs.Entry.{goods_deed, sale, credit, Entry, Accept, Mint, Account, Deposit, Withdraw, Draw}
 use Rattle.ledger_model.specs.Histories.{History}
 use Rattle.ledger_model.specs.Houses.{site_kind, is_vendor, is_broker}

@@ -5,11 +5,11 @@ use Rattle.std.proofs.lemmas.Bool.{false≢true, false_from_ne_true, ltb-false, 
 use Rattle.std.proofs.lemmas.Option.{none-some, same_Some}
 use Rattle.mc_base.specs.declared.amount.TheConstants.Amount.{MOST}
 use Rattle.mc_records.specs.declared.ranges.TheConstants.{MOST_IN_ACCOUNT}
-use Rattle.mc_records.specs.declared.refusal.Refusal.{Refusal}
-use Rattle.mc_records.specs.declared.refusal.Refusal.TheVariants.{StaleOrder, PoorAccount, AccountFull}
-use Rattle.mc_records.specs.declared.errand.Errand as errands
-use Rattle.mc_records.specs.Errands.{Errand, errand_of}
-use Rattle.mc_records.specs.ErrandViews.{errand}
+use Rattle.mc_requests.specs.declared.refusal.Refusal.{Refusal}
+use Rattle.mc_requests.specs.declared.refusal.Refusal.TheVariants.{StaleOrder, PoorAccount, AccountFull}
+use Rattle.mc_requests.specs.declared.errand.Errand as errands
+use Rattle.mc_requests.specs.Errands.{Errand, errand_of}
+use Rattle.mc_requests.specs.ErrandViews.{errand}
 use Rattle.std.specs.Borrow.{Bor}
 use Rattle.mc_records.specs.declared.record.Record.{Record}
 use Rattle.mc_records.specs.declared.record.Record.TheVariants as records

@@ -1,7 +1,7 @@
 -- The worked rows of an operator by computation: 1000 units are put into the account of ann under a reference.
 use Rattle.std.proofs.Common.{◌≡◌, ℕ, ◌-◌, ◌^◌, List, [], ◌∷◌, Some, None, Ok, Err, refl}
 use Rattle.std.specs.Prelude.{codes}
-use Rattle.mc_records.specs.declared.refusal.Refusal.TheVariants.{NoAccount, PoorAccount, AccountFull, RefUsed, AccountTaken}
+use Rattle.mc_requests.specs.declared.refusal.Refusal.TheVariants.{NoAccount, PoorAccount, AccountFull, RefUsed, AccountTaken}
 use Rattle.mc_records.specs.Entry.{Account, Deposit, Withdraw}
 use Rattle.ledger_model.specs.Histories.{History}
 use Rattle.broker_ledger.specs.Tasks.{account_task, deposit_task, withdraw_task}

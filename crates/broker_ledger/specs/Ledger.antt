@@ -1,7 +1,7 @@
 -- What an account ledger keeps of a history.
 use Rattle.std.specs.Prelude.{◌≡◌, ℕ, ◌+◌, ◌<◌, ◌≤◌, Bool, false, if◌then◌else◌, nat_le, IsFalse, IsNone, IsSome, IfSome, List, [], map, find, length, is_some, bytes_eq, sum_by, slice_get, Option, Some, None, option_map, option_and_then, unwrap_or, vec_len, vec_capacity}
 use Rattle.mc_base.specs.declared.amount.TheConstants.Amount.{MOST}
-use Rattle.mc_records.specs.Errands.{errand_of}
+use Rattle.mc_requests.specs.Errands.{errand_of}
 use Rattle.mc_records.specs.Entry.{Deed, credit, Entry, Accept, Mint, Account, Deposit, Withdraw, Draw, Fits}
 use Rattle.ledger_model.specs.Histories.{History}
 use Rattle.ledger_model.specs.Orders as model

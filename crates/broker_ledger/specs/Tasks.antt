@@ -1,8 +1,8 @@
 -- What there is to do by a call of a broker's operator.
 use Rattle.std.specs.Prelude.{ℕ, ◌==◌, ◌&&◌, Bool, false, if◌then◌else◌, List, find, bytes_eq, Option, Some, None, option_map, unwrap_or, Result, Ok, Err}
 use Rattle.mc_records.specs.declared.record.Record.{Record}
-use Rattle.mc_records.specs.declared.refusal.Refusal.{Refusal}
-use Rattle.mc_records.specs.declared.refusal.Refusal.TheVariants.{RefUsed, AccountTaken}
+use Rattle.mc_requests.specs.declared.refusal.Refusal.{Refusal}
+use Rattle.mc_requests.specs.declared.refusal.Refusal.TheVariants.{RefUsed, AccountTaken}
 use Rattle.mc_records.specs.Views.{entry}
 use Rattle.mc_records.specs.Entry.{Entry, Account, Deposit, Withdraw}
 use Rattle.ledger_model.specs.Histories.{History}

@@ -1,5 +1,5 @@
 ghost use Rattle.std.specs.Prelude.{IsTrue};
-ghost use Rattle.mc_records.specs.declared.limits.Limits.{Limits};
+ghost use Rattle.mc_requests.specs.declared.limits.Limits.{Limits};
 ghost use Rattle.mc_records.specs.Entry.{Entry};
 ghost use Rattle.ledger_model.specs.Histories.{History};
 ghost use Rattle.ledger_model.specs.Houses.{is_broker};

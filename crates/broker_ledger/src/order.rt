@@ -3,7 +3,7 @@ ghost use Rattle.ledger_model.specs.Orders as model;
 ghost use Rattle.broker_ledger.specs.Ledger.{order_view};
 
 use mc_base::Amount;
-use mc_records::{Errand, errands_are_texts, read_errand};
+use mc_requests::{Errand, errands_are_texts, read_errand};
 use scrip_form::Name;
 
 /// A draw that a target asks for: so much out of an account, under an order of 1 to 2^40.

@@ -1,7 +1,7 @@
 ghost use Rattle.std.specs.Prelude.{◌≡◌, ◌==◌, ◌<◌, ◌∷◌, [], IfErr, IfOk, IfSome, IsTrue};
 ghost use Rattle.std.specs.List.{list_any};
 ghost use Rattle.mc_records.specs.Entry.{Account, Deposit, Withdraw, Fits};
-ghost use Rattle.mc_records.specs.Refusals.{number_of};
+ghost use Rattle.mc_requests.specs.Refusals.{number_of};
 ghost use Rattle.mc_records.specs.Views.{entry};
 ghost use Rattle.ledger_model.specs.Histories.{History};
 ghost use Rattle.broker_ledger.specs.Ledger.{Represents, AccountsAllow};
@@ -11,7 +11,8 @@ ghost use Rattle.broker_ledger.specs.Tasks.{task_of, account_task, deposit_task,
 use crate::broker_ledger::AccountLedger;
 use crate::payment::Payment;
 use mc_base::{Amount, Moment};
-use mc_records::{MOST_IN_ACCOUNT, Record, Refusal};
+use mc_records::{MOST_IN_ACCOUNT, Record};
+use mc_requests::Refusal;
 use scrip_form::Name;
 
 /// What there is to do by a call of the operator: `Ok` is the entry to add, which may come next, or None

@@ -11,10 +11,10 @@ use Rattle.std.proofs.lemmas.Slice.Eq.{bytes_eq-Decides}
 use Rattle.scrip_form.specs.Issuing.{Issuing}
 use Rattle.scrip_form.specs.Scrip.{Scrip}
 use Rattle.mc_records.specs.Entry.{Held, Entry, Accept, Licence, Stock, moment_of}
-use Rattle.mc_records.specs.Errands.{Errand, buy, pay_in, draw, errand_of}
-use Rattle.mc_records.specs.ErrandViews.{errand}
+use Rattle.mc_requests.specs.Errands.{Errand, buy, pay_in, draw, errand_of}
+use Rattle.mc_requests.specs.ErrandViews.{errand}
 use Rattle.mc_records.specs.Views.{deed_of, entry}
-use Rattle.mc_records.specs.declared.errand.Errand as errands
+use Rattle.mc_requests.specs.declared.errand.Errand as errands
 use Rattle.mc_records.specs.declared.record.Record.{Record}
 use Rattle.mc_records.specs.declared.terms.RecordTerms.{RecordTerms}
 use Rattle.mc_records.specs.declared.record.Record.TheVariants as records

@@ -2,7 +2,7 @@
 use Rattle.std.specs.Prelude.{◌≡◌, ℕ, ◌<◌, false, IsTrue, IsNone, IsSome, IfSome, List, length, slice_get, Option, Some, None, option_map, option_and_then, unwrap_or}
 use Rattle.std.specs.Borrow.{Bor}
 use Rattle.scrip_form.specs.Identities.{series_of}
-use Rattle.mc_records.specs.Errands.{Errand, buy}
+use Rattle.mc_requests.specs.Errands.{Errand, buy}
 use Rattle.mc_records.specs.Entry.{Entry, Licence, Stock, Fits, moment_of}
 use Rattle.ledger_model.specs.Histories.{History}
 use Rattle.ledger_model.specs.Stock.{Sale, sale_of, licence_in, stock_ids, are_stock}

@@ -4,7 +4,7 @@ ghost use Rattle.std.specs.Option.{option_or};
 ghost use Rattle.scrip_form.specs.Issuing.{Issuing};
 ghost use Rattle.scrip_form.specs.Identities.{series_of};
 ghost use Rattle.change_issue.specs.Registers.{IsRaisedAt};
-ghost use Rattle.mc_records.specs.declared.limits.Limits.{Limits as Bounds};
+ghost use Rattle.mc_requests.specs.declared.limits.Limits.{Limits as Bounds};
 ghost use Rattle.ledger_model.specs.Histories.{History};
 ghost use Rattle.ledger_model.specs.Lawful.{MayFollow};
 ghost use Rattle.ledger_model.specs.Stock.{licence_in, ids_of, names_vendor, sale_of, sold_held, for_sale, stock_ids, are_stock};

@@ -1,9 +1,9 @@
 ghost use Rattle.std.specs.Prelude.{◌≡◌, ◌<◌, IfSome};
-ghost use Rattle.mc_records.specs.Errands.{errand_of};
+ghost use Rattle.mc_requests.specs.Errands.{errand_of};
 ghost use Rattle.broker_stalls.specs.Vendors.{asked_to_buy};
 
 use mc_base::Amount;
-use mc_records::{Errand, errands_are_texts, read_errand};
+use mc_requests::{Errand, errands_are_texts, read_errand};
 use scrip_form::Name;
 
 /// Scrip that a target asks to buy: of this vendor, and of this value.

@@ -1,7 +1,7 @@
 //! Lines that ask what the entries of the book say.
 
 ghost use Rattle.std.specs.Prelude.{[]};
-ghost use Rattle.mc_records.specs.Limits.{AreInRange};
+ghost use Rattle.mc_requests.specs.Limits.{AreInRange};
 
 use crate::serve_verbs::unopened;
 use broker_core::Desk;
@@ -10,7 +10,7 @@ use house_opening::open_house;
 use house_state::{Trade, Verdict};
 use ledger_model::History;
 use mc_base::Moment;
-use mc_records::{Limits, MOST_REFUSAL_BYTES, Refusal, Request, put_refusal_text};
+use mc_requests::{Limits, MOST_REFUSAL_BYTES, Refusal, Request, put_refusal_text};
 use mc_stage::Stage;
 use scrip_journal::{OpenFault, Replay, open_journal};
 use slow_ledger::{ModelAnswer, slow_answer, slow_lawful};

@@ -11,7 +11,7 @@ use house_core::{House, Outcome};
 use house_opening::open_house;
 use house_state::Trade;
 use mc_base::{Amount, Moment};
-use mc_records::Refusal;
+use mc_requests::Refusal;
 use mc_stage::Stage;
 use scrip_form::{Id, Name, Target};
 use vendor_core::{Shelf, add_terms, mint, set_goods, set_price, upgrade};

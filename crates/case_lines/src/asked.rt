@@ -2,7 +2,7 @@
 
 use crate::fault::Fault;
 use crate::state::State;
-use mc_records::Request;
+use mc_requests::Request;
 
 /// A request of a case, which owns its texts.
 #[derive(Drop)]

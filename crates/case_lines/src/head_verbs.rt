@@ -7,7 +7,7 @@ use crate::fault::Fault;
 use crate::show::Lines;
 use crate::state::State;
 use mc_outside::Link;
-use mc_records::{Refusal, Request};
+use mc_requests::{Refusal, Request};
 use mc_stage::Stage;
 use millicent_http::{After, HeadOut, HeadReader, ItemRef, next_item};
 

@@ -9,7 +9,7 @@ use crate::words::{number, small};
 use change_issue::{Issuer, SeriesFull};
 use kept_replies::{Deed, Kept, KeptEntry};
 use mc_base::{Amount, Coin, Moment, Total};
-use mc_records::{Limits, Request};
+use mc_requests::{Limits, Request};
 use scrip_form::{Id, Name, Props};
 
 /// The verbs of this module; None where the verb is none of them.

@@ -3,7 +3,8 @@
 use crate::fault::Fault;
 use crate::show::Lines;
 use crate::state::State;
-use mc_records::{Limits, PieceList, SiteTerms, read_record, write_record};
+use mc_records::{PieceList, SiteTerms, read_record, write_record};
+use mc_requests::Limits;
 use mc_stage::Stage;
 use scrip_journal::{
     Journal, OpenFault, Replay, ReplayFault, StageFault, found_journal, open_journal,

@@ -4,7 +4,7 @@ use crate::fault::Fault;
 use crate::show::Lines;
 use crate::state::State;
 use crate::words::number as number_of;
-use mc_records::{MOST_REFUSAL_BYTES, Refusal, put_refusal_text};
+use mc_requests::{MOST_REFUSAL_BYTES, Refusal, put_refusal_text};
 use scrip_form::{Id, Name};
 
 /// The refusal of this number that keeps these values.

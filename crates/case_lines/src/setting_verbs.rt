@@ -4,7 +4,7 @@ use crate::fault::Fault;
 use crate::show::Lines;
 use crate::state::{Beside, State};
 use crate::words::{number, numbers, small};
-use mc_records::Limits;
+use mc_requests::Limits;
 use mc_stage::Stage;
 use std::alloc::Global;
 

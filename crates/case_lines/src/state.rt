@@ -6,7 +6,7 @@ use crate::show::Lines;
 use change_issue::Issuer;
 use kept_replies::Kept;
 use mc_base::List;
-use mc_records::Limits;
+use mc_requests::Limits;
 use mc_stage::{Failing, Stage};
 use scrip_form::Terms;
 use std::alloc::Global;

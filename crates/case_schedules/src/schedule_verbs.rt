@@ -2,7 +2,7 @@
 
 ghost use Rattle.std.specs.Prelude.{◌≤◌, ◌^◌, IsTrue, IfOk};
 ghost use Rattle.std.specs.List.{AllByRecursion};
-ghost use Rattle.mc_records.specs.Limits.{AreInRange};
+ghost use Rattle.mc_requests.specs.Limits.{AreInRange};
 ghost use Rattle.mc_records.specs.Sizes.{size};
 ghost use Rattle.ledger_model.specs.Lawful.{IsLawful};
 ghost use Rattle.wallet_model.specs.Follows.{IsWalletBook};
@@ -11,7 +11,7 @@ use case_houses::history_of;
 use case_lines::{Fault, Lines, State, number, show_entry, small};
 use ledger_model::History;
 use mc_base::Amount;
-use mc_records::Limits;
+use mc_requests::Limits;
 use mc_world::{Event, Setup, World, play};
 use scrip_form::{Name, Target};
 use slow_ledger::{Prefix, slow_chain, slow_lawful, slow_size};

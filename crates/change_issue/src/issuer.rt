@@ -1,14 +1,14 @@
 ghost use Rattle.std.specs.Prelude.{◌≡◌, ◌+◌, ◌<◌, ◌≤◌, ◌^◌, ◌↔◌, ◌==◌, ◌||◌, ℕ, false, IsTrue, IsOk, IsErr, IfErr, IfOk, OnOk, OnErr};
 ghost use Rattle.scrip_form.specs.Identities.{series_of, numbered};
 ghost use Rattle.scrip_form.specs.Issuing.{HasPeriod, series_at};
-ghost use Rattle.mc_records.specs.Limits.{AreInRange};
+ghost use Rattle.mc_requests.specs.Limits.{AreInRange};
 ghost use Rattle.change_issue.specs.Registers.{has_room, count_in, issued_in, redeemed_in, next_in, IsRaisedAt};
 ghost use Rattle.change_issue.specs.IssuedPieces.{issued_piece};
 
 use crate::series_full::SeriesFull;
 use crate::sheet::Sheet;
 use mc_base::{Amount, Coin, Moment, NoMemory};
-use mc_records::Limits;
+use mc_requests::Limits;
 use scrip_form::{Id, Name, Piece, Props, Terms};
 use std::alloc::Global;
 use std::collections::HashMap;

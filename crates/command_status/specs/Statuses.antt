@@ -1,7 +1,7 @@
 -- The statuses that the program ends with, and the line that is said with each.
 use Rattle.std.specs.Prelude.{ℕ, List, [], ◌++◌, codes, decimal}
 use Rattle.scrip_form.specs.Scrip.{id_digits}
-use Rattle.mc_records.specs.Refusals.{refusal_text}
+use Rattle.mc_requests.specs.Refusals.{refusal_text}
 use Rattle.command_status.specs.declared.status.Status.{Status}
 use Rattle.command_status.specs.declared.status.Status.TheVariants.{Done, Served, Proxied, Founded, Did, BadWords, NotJournal, BadEntry, BadChain, UnlawfulEntry, DiskFault, NoMemory, LinkFault, Refused, Stranger}
 

@@ -6,7 +6,7 @@ ghost use Rattle.command_status.specs.Faults.{fault_status};
 ghost use Rattle.command_status.specs.Statuses.{number_of};
 
 use crate::status::Status;
-use mc_records::Refusal;
+use mc_requests::Refusal;
 use scrip_journal::HouseFault;
 
 /// The disk of a book that is not opened or founded, and why.

@@ -6,7 +6,7 @@ ghost use Rattle.command_status.specs.Statuses.{number_of, line_of, IsMade};
 
 use mc_base::List;
 use mc_fields::{put, put_number};
-use mc_records::{Refusal, put_refusal_text};
+use mc_requests::{Refusal, put_refusal_text};
 use scrip_form::{Id, Name, digits_of_id};
 
 /// How the program ends. What is said with each is in `docs/FORMATS.md`.

@@ -4,8 +4,8 @@ use Rattle.std.specs.Prelude.{if◌then◌else◌, ◌==◌, IfErr, IsTrue}
 use Rattle.std.specs.List.{list_any, list_all}
 use Rattle.std.proofs.lemmas.Bool.{lt-ltb, le-ltb, eq-eqb, false_from_ne_true, eqb-true}
 use Rattle.scrip_form.specs.Issuing.{Issuing, series_end}
-use Rattle.mc_records.specs.declared.refusal.Refusal.{Refusal}
-use Rattle.mc_records.specs.declared.refusal.Refusal.TheVariants.{NoVendor, BadStatement, PaidTwice, SeriesOpen, OverSold}
+use Rattle.mc_requests.specs.declared.refusal.Refusal.{Refusal}
+use Rattle.mc_requests.specs.declared.refusal.Refusal.TheVariants.{NoVendor, BadStatement, PaidTwice, SeriesOpen, OverSold}
 use Rattle.ledger_model.specs.Histories.{History}
 use Rattle.ledger_model.specs.Stock.{licence_in, of_issuer}
 use Rattle.ledger_model.specs.Lines.{Stop, Refuse, Repeat, ◌>>=◌, given, refused_if}

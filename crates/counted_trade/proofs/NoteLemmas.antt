@@ -6,7 +6,7 @@ use Rattle.std.proofs.lemmas.List.{length-append}
 use Rattle.mc_fields.proofs.TextTest.{text_decides}
 use Rattle.mc_fields.specs.Texts.{is_text}
 use Rattle.scrip_form.specs.Texts.{is_letter_or_digit, is_name_byte, IsName, is_name}
-use Rattle.mc_records.specs.declared.limits.Limits.{Limits}
+use Rattle.mc_requests.specs.declared.limits.Limits.{Limits}
 use Rattle.mc_records.specs.Entry.{Entry, Note}
 use Rattle.ledger_model.specs.Histories.{History, time}
 use Rattle.ledger_model.specs.Houses.{site_kind}

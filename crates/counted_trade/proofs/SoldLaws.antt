@@ -8,8 +8,8 @@ use Rattle.std.proofs.lemmas.List.Elements.{filter-append, filter_map-append}
 use Rattle.std.proofs.lemmas.List.Sums.{sum_by-append, sum_by-cons}
 use Rattle.scrip_form.specs.Identities.{issuer_of, epoch_of}
 use Rattle.mc_records.specs.Entry.{Entry, Accept, sale}
-use Rattle.mc_records.specs.Errands.{Errand, buy, errand_of}
-use Rattle.mc_records.proofs.ErrandLaws.{errand_told}
+use Rattle.mc_requests.specs.Errands.{Errand, buy, errand_of}
+use Rattle.mc_requests.proofs.ErrandLaws.{errand_told}
 use Rattle.ledger_model.specs.Histories.{History}
 use Rattle.ledger_model.specs.Stock.{Sale, sale_at, sale_of, sales}
 use Rattle.sum_table.specs.SumTable.{SumTableView, sum_of}

@@ -4,8 +4,8 @@ use Rattle.std.specs.Prelude.{codes, is_some}
 use Rattle.std.proofs.lemmas.Bool.{lt-ltb, le-ltb}
 use Rattle.mc_outside.specs.DiskView.{DiskView}
 use Rattle.scrip_form.specs.Issuing.{Issuing, series_end}
-use Rattle.mc_records.specs.declared.limits.Limits.{Limits}
-use Rattle.mc_records.specs.declared.refusal.Refusal.TheVariants.{NoTerms, SeriesOpen}
+use Rattle.mc_requests.specs.declared.limits.Limits.{Limits}
+use Rattle.mc_requests.specs.declared.refusal.Refusal.TheVariants.{NoTerms, SeriesOpen}
 use Rattle.mc_records.specs.Entry.{Note}
 use Rattle.ledger_model.specs.Histories.{History}
 use Rattle.ledger_model.specs.Houses.{site_name, terms_in}

@@ -1,7 +1,7 @@
 -- What there is to do to state a series and to pay a statement, and what is answered.
 use Rattle.std.specs.Prelude.{◌≡◌, ℕ, List, ◌++◌, codes, Option, Some, None, Result, Ok, Err}
 use Rattle.scrip_form.specs.Issuing.{Issuing}
-use Rattle.mc_records.specs.declared.refusal.Refusal.{Refusal}
+use Rattle.mc_requests.specs.declared.refusal.Refusal.{Refusal}
 use Rattle.mc_records.specs.Entry.{Note}
 use Rattle.ledger_model.specs.Histories.{History}
 use Rattle.ledger_model.specs.Houses.{terms_in}

@@ -11,7 +11,7 @@ ghost use Rattle.counted_trade.specs.Tasks.{judged};
 
 use crate::Counts;
 use mc_base::Moment;
-use mc_records::Refusal;
+use mc_requests::Refusal;
 use scrip_form::Terms;
 use settle_core::{Payment, Statement, is_certified};
 

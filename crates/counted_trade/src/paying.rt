@@ -16,7 +16,7 @@ use crate::noting::enter_note;
 use house_core::{House, Outcome};
 use house_state::Trade;
 use mc_outside::Disk;
-use mc_records::Refusal;
+use mc_requests::Refusal;
 use settle_core::{payment_in, read_statement};
 
 /// Pays the statement that the bytes are, and answers its amount: the payment is noted, where it was not made before. It

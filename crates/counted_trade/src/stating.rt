@@ -18,7 +18,7 @@ use house_core::{House, Outcome};
 use house_state::Trade;
 use mc_base::NoMemory;
 use mc_outside::Disk;
-use mc_records::Refusal;
+use mc_requests::Refusal;
 use settle_core::{Claim, Payment, append_claim, append_statement};
 
 /// States what was redeemed of a series of an issuer above 0, whose epoch is below 2^24: notes it, where it was not noted

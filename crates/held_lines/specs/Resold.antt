@@ -1,7 +1,7 @@
 -- The lines of the pieces of a wallet that another may sell, by its history.
 use Rattle.std.specs.Prelude.{◌≡◌, ℕ, ◌<◌, List, [], ◌++◌, length, take, filter, flat_map, Result, Ok, Err}
 use Rattle.mc_records.specs.PieceLine.{piece_line}
-use Rattle.mc_records.specs.declared.refusal.Refusal.TheVariants.{NoFunds}
+use Rattle.mc_requests.specs.declared.refusal.Refusal.TheVariants.{NoFunds}
 use Rattle.ledger_model.specs.Histories.{History}
 use Rattle.ledger_model.specs.Pieces.{is_first_hand}
 use Rattle.wallet_model.specs.Asks.{Offered, fit_for}

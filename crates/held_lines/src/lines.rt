@@ -10,7 +10,7 @@ ghost use Rattle.held_lines.specs.Resold.{Appends, LeavesBytes, resold_for};
 
 use house_state::put_piece_line;
 use mc_base::{Moment, NoMemory};
-use mc_records::Refusal;
+use mc_requests::Refusal;
 use scrip_form::{Name, Piece};
 use std::alloc::Global;
 use wallet_book::{Holding, State};

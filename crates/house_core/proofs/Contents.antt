@@ -16,7 +16,7 @@ use Rattle.house_state.specs.declared.verdict.NotAuthorized.{NotAuthorized}
 use Rattle.house_state.specs.declared.verdict.NotAuthorized.TheVariants as stops
 use Rattle.house_core.specs.declared.fault.BenchFault.TheVariants as faults
 use Rattle.house_state.specs.Representation.{IsReply}
-use Rattle.mc_records.specs.Requests.{Asked}
+use Rattle.mc_requests.specs.Requests.{Asked}
 use Rattle.ledger_model.specs.Answer.{Answer, answer, answered}
 use Rattle.house_state.specs.Verdicts.{stop_of}
 use Rattle.house_core.specs.Bench.{IsInForceFor, IsRoomed, HasContents, KeepsContents, house_time, limits_of, stopped_with}

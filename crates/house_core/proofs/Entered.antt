@@ -10,9 +10,9 @@ use Rattle.std.proofs.lemmas.List.Sums.{sum_by-append}
 use Rattle.scrip_form.specs.Identities.{series_of}
 use Rattle.scrip_form.specs.Issuing.{Issuing}
 use Rattle.scrip_form.specs.Scrip.{Scrip}
-use Rattle.mc_records.specs.declared.limits.Limits.{Limits}
+use Rattle.mc_requests.specs.declared.limits.Limits.{Limits}
 use Rattle.mc_records.specs.Entry.{House, Entry, Accept, Mint, Draw, moment_of, payload}
-use Rattle.mc_records.specs.Requests.{Asked}
+use Rattle.mc_requests.specs.Requests.{Asked}
 use Rattle.mc_records.specs.Chains.{is_switch}
 use Rattle.mc_records.specs.Sizes.{tail_bytes}
 use Rattle.mc_records.proofs.ChainLaws.{has_switch-first}

@@ -3,8 +3,8 @@ use Rattle.std.proofs.Common.{◌≡◌, ℕ, zero, suc, ◌<◌, ◌≤◌, Lis
 use Rattle.std.proofs.lemmas.Bool.{eq-eqb}
 use Rattle.mc_base.specs.declared.amount.TheConstants.Amount.{MOST}
 use Rattle.scrip_form.specs.Issuing.{Issuing}
-use Rattle.mc_records.specs.declared.limits.Limits.{Limits}
-use Rattle.mc_records.specs.Limits.{AreInRange}
+use Rattle.mc_requests.specs.declared.limits.Limits.{Limits}
+use Rattle.mc_requests.specs.Limits.{AreInRange}
 use Rattle.mc_records.specs.Entry.{House, HouseFits, Entry, Site}
 use Rattle.mc_records.proofs.SizeLaws.{length-tail, tail_size-by}
 use Rattle.ledger_model.specs.Houses.{keeping, site_kind, terms_by}

@@ -11,7 +11,7 @@ use Rattle.mc_records.proofs.SizeLaws.{length-tail, tail_size-by}
 use Rattle.scrip_journal.specs.States.{AtRest, IsJournal}
 use Rattle.scrip_journal.specs.Rests.{journal_keeps, journal_leaves}
 use Rattle.scrip_journal.specs.Exits.{EncodesNoOutput}
-use Rattle.mc_records.specs.declared.limits.Limits.{Limits}
+use Rattle.mc_requests.specs.declared.limits.Limits.{Limits}
 use Rattle.ledger_model.specs.Histories.{History}
 use Rattle.ledger_model.specs.Lawful.{MayFollow}
 use Rattle.house_core.specs.BenchView.{BenchView}
@@ -26,10 +26,10 @@ use Rattle.house_core.specs.declared.outcome.Outcome.TheVariants.{Done, Refused,
 use Rattle.house_core.specs.declared.outcome.Response.{Response}
 use Rattle.house_core.specs.declared.outcome.Response.TheVariants.{New, Again}
 use Rattle.house_core.specs.SettledView.{SettledView}
-use Rattle.mc_records.specs.declared.refusal.Refusal.TheVariants.{Spent}
-use Rattle.mc_records.specs.declared.refusal.Refusal.{Refusal}
+use Rattle.mc_requests.specs.declared.refusal.Refusal.TheVariants.{Spent}
+use Rattle.mc_requests.specs.declared.refusal.Refusal.{Refusal}
 use Rattle.scrip_form.specs.Scrip.{Scrip}
-use Rattle.mc_records.specs.Requests.{Asked}
+use Rattle.mc_requests.specs.Requests.{Asked}
 use Rattle.ledger_model.specs.Stages.{read_by}
 use Rattle.ledger_model.proofs.TableLaws.{read_ok}
 use Rattle.ledger_model.specs.Answer as answers

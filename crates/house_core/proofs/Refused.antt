@@ -2,11 +2,11 @@
 use Rattle.std.proofs.Common.{◌≡◌, ℕ, Bool, true, false, cond, List, [], ◌++◌, refl, sym, ap, ap₂, ◌∙◌, Option, Some, None, unwrap_or}
 use Rattle.std.specs.Prelude.{codes}
 use Rattle.std.proofs.lemmas.List.{append-nil}
-use Rattle.mc_records.specs.declared.refusal.Refusal.{Refusal}
-use Rattle.mc_records.specs.Requests.{Asked}
-use Rattle.mc_records.specs.declared.refusal.Refusal.TheVariants.{DiskFault}
-use Rattle.mc_records.specs.Refusals.{is_signed}
-use Rattle.mc_records.specs.Replies.{Reply, reply_head}
+use Rattle.mc_requests.specs.declared.refusal.Refusal.{Refusal}
+use Rattle.mc_requests.specs.Requests.{Asked}
+use Rattle.mc_requests.specs.declared.refusal.Refusal.TheVariants.{DiskFault}
+use Rattle.mc_requests.specs.Refusals.{is_signed}
+use Rattle.mc_requests.specs.Replies.{Reply, reply_head}
 use Rattle.ledger_model.specs.Histories.{History}
 use Rattle.ledger_model.specs.Orders.{Order}
 use Rattle.ledger_model.specs.Answer.{draw_in, without_scrip, as_counted}

@@ -5,9 +5,9 @@ use Rattle.std.proofs.lemmas.List.{take-append-le, take_all}
 use Rattle.scrip_form.specs.Identities.{issuer_of, epoch_of, series_of}
 use Rattle.scrip_form.specs.Issuing.{Issuing, epoch, series_end}
 use Rattle.scrip_form.specs.Scrip.{Scrip, Certified, scrip_body, scrip_text}
-use Rattle.mc_records.specs.declared.refusal.Refusal.TheVariants.{WrongVendor, UnknownIssuer, ExpiryMismatch, WrongVersion, BadCertificate}
+use Rattle.mc_requests.specs.declared.refusal.Refusal.TheVariants.{WrongVendor, UnknownIssuer, ExpiryMismatch, WrongVersion, BadCertificate}
 use Rattle.mc_records.specs.Entry.{Entry, Accept}
-use Rattle.mc_records.specs.Requests.{Asked}
+use Rattle.mc_requests.specs.Requests.{Asked}
 use Rattle.kept_replies.specs.Kept.{KeptReply}
 use Rattle.change_issue.specs.Registers.{count_in, next_in}
 use Rattle.ledger_model.specs.Histories.{History}

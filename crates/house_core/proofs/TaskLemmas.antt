@@ -1,8 +1,8 @@
 -- What comes of a task.
 use Rattle.std.proofs.Common.{◌≡◌, ℕ, ◌+◌, [], ◌∷◌, ◌++◌, length, Err, refl, arith, length-append}
 use Rattle.mc_outside.specs.DiskView.{DiskView, IsDisk, Ran}
-use Rattle.mc_records.specs.declared.limits.Limits.{Limits}
-use Rattle.mc_records.specs.declared.refusal.Refusal.{Refusal}
+use Rattle.mc_requests.specs.declared.limits.Limits.{Limits}
+use Rattle.mc_requests.specs.declared.refusal.Refusal.{Refusal}
 use Rattle.mc_records.specs.Entry.{Entry}
 use Rattle.ledger_model.specs.Histories.{History}
 use Rattle.ledger_model.specs.Answer as answers

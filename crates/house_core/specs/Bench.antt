@@ -2,7 +2,7 @@
 use Rattle.std.specs.Prelude.{◌≡◌, ℕ, ◌<◌, List, [], ◌∷◌, ◌++◌, length, All, IsTrue, Some, Result, Ok, Err}
 use Rattle.mc_base.specs.declared.no_memory.NoMemory.{NoMemory}
 use Rattle.mc_records.specs.Entry.{Entry, moment_of}
-use Rattle.mc_records.specs.declared.limits.Limits.{Limits}
+use Rattle.mc_requests.specs.declared.limits.Limits.{Limits}
 use Rattle.spent_windows.specs.Windows.{WindowView}
 use Rattle.kept_replies.specs.Kept.{KeptReply, has_number}
 use Rattle.ledger_model.specs.Histories.{History}

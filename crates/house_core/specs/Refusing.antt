@@ -1,8 +1,8 @@
 -- Which refusals a call may end with, whatever its house represents.
 use Rattle.std.specs.Prelude.{ℕ, ◌==◌, List, IsTrue}
 use Rattle.std.specs.List.{list_any}
-use Rattle.mc_records.specs.declared.refusal.Refusal.{Refusal}
-use Rattle.mc_records.specs.Refusals.{number_of}
+use Rattle.mc_requests.specs.declared.refusal.Refusal.{Refusal}
+use Rattle.mc_requests.specs.Refusals.{number_of}
 use Rattle.house_core.specs.declared.fault.EnterFault.{EnterFault}
 use Rattle.house_core.specs.declared.fault.EnterFault.TheVariants as faults
 

@@ -1,10 +1,10 @@
 -- How the items were answered that a house served, counted.
 use Rattle.std.specs.Prelude.{◌≡◌, ℕ, ◌+◌, ◌-◌, ◌*◌, ◌^◌, ◌<◌, ◌≤◌, ◌==◌, not, nat_lt, min, Bool, true, false, List, [], ◌∷◌, length, map, count_by, sum_by, Some, option_map, unwrap_or}
 use Rattle.std.specs.List.{list_any}
-use Rattle.mc_records.specs.declared.limits.Limits.{Limits}
-use Rattle.mc_records.specs.declared.refusal.Refusal.{Refusal}
-use Rattle.mc_records.specs.declared.refusal.Refusal.TheVariants.{NoMemory}
-use Rattle.mc_records.specs.Refusals.{number_of}
+use Rattle.mc_requests.specs.declared.limits.Limits.{Limits}
+use Rattle.mc_requests.specs.declared.refusal.Refusal.{Refusal}
+use Rattle.mc_requests.specs.declared.refusal.Refusal.TheVariants.{NoMemory}
+use Rattle.mc_requests.specs.Refusals.{number_of}
 use Rattle.mc_records.specs.Entry.{Entry, Accept}
 use Rattle.ledger_model.specs.Pieces.{piece_of}
 use Rattle.ledger_model.specs.Sums.{price_paid}

@@ -2,8 +2,8 @@
 use Rattle.std.specs.Prelude.{◌≡◌, ℕ, ◌+◌, List, [], ◌∷◌, ◌++◌, length, Option, None, Ok, Err, MatchOption, if◌then◌else◌}
 use Rattle.mc_outside.specs.Bytes.{Rose}
 use Rattle.mc_outside.specs.DiskView.{DiskView, Ran}
-use Rattle.mc_records.specs.declared.limits.Limits.{Limits}
-use Rattle.mc_records.specs.declared.refusal.Refusal.{Refusal}
+use Rattle.mc_requests.specs.declared.limits.Limits.{Limits}
+use Rattle.mc_requests.specs.declared.refusal.Refusal.{Refusal}
 use Rattle.mc_records.specs.Entry.{Entry, Switch}
 use Rattle.mc_records.specs.Chains.{chain, has_switch}
 use Rattle.ledger_model.specs.Histories.{History}

@@ -1,7 +1,7 @@
 -- What there is to do where an issuer of a vendor is to be moved to the second version of scrip.
 use Rattle.std.specs.Prelude.{ℕ, ◌==◌, nat_lt, if◌then◌else◌, List, Option, Some, None}
 use Rattle.scrip_form.specs.Issuing.{Issuing, epoch}
-use Rattle.mc_records.specs.declared.refusal.Refusal.TheVariants.{NoTerms, VersionSet, TooEarly}
+use Rattle.mc_requests.specs.declared.refusal.Refusal.TheVariants.{NoTerms, VersionSet, TooEarly}
 use Rattle.mc_records.specs.Entry.{Upgrade}
 use Rattle.ledger_model.specs.Histories.{History}
 use Rattle.ledger_model.specs.Houses.{upgrade_in}

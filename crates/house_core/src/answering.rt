@@ -3,7 +3,7 @@
 ghost use Rattle.std.specs.Prelude.{◌≡◌, [], ◌∷◌, IfOk, IfErr, is_ok, option_map};
 ghost use Rattle.ledger_model.specs.Histories.{History};
 ghost use Rattle.ledger_model.specs.Answer.{answer, as_counted, draw_in};
-ghost use Rattle.mc_records.specs.Requests.{asked_of};
+ghost use Rattle.mc_requests.specs.Requests.{asked_of};
 ghost use Rattle.ledger_model.specs.Replies as ledger;
 ghost use Rattle.millicent_http.specs.HeadRefusals.{as_refusal};
 ghost use Rattle.house_core.specs.Bench.{Represents, IsHouse, KeepsReply, Refines, house_time, limits_of, windows_of, tally_of, IsTallied, state_of};
@@ -22,7 +22,7 @@ use house_state::{DrawAsk, HouseState, Presented, Trade, without_scrip};
 use kept_replies::KeptNumber;
 use link_turns::Reply;
 use mc_base::Moment;
-use mc_records::{Refusal, Request};
+use mc_requests::{Refusal, Request};
 use millicent_http::HeadRefusal;
 
 impl<T: Trade> Bench<T> {

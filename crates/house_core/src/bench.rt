@@ -1,6 +1,6 @@
 ghost use Rattle.std.specs.Prelude.{◌≡◌, ◌+◌, ◌<◌, ◌≤◌, ◌==◌, ℕ, Err, [], ◌∷◌, ◌++◌, MatchResult, OnOk, OnErr, length, max, None, Some, Ok, IfOk, IfErr, IfSome, is_ok};
-ghost use Rattle.mc_records.specs.declared.limits.Limits.{Limits as Bounds};
-ghost use Rattle.mc_records.specs.Limits.{AreInRange};
+ghost use Rattle.mc_requests.specs.declared.limits.Limits.{Limits as Bounds};
+ghost use Rattle.mc_requests.specs.Limits.{AreInRange};
 ghost use Rattle.mc_records.specs.Chains.{TellsChain};
 ghost use Rattle.mc_records.specs.Entry.{Fits, moment_of, payload};
 ghost use Rattle.house_state.specs.CommandEntries.{IsCommand};
@@ -9,7 +9,7 @@ ghost use Rattle.ledger_model.specs.Lawful.{MayFollow};
 ghost use Rattle.house_state.specs.Learning.{MayEnter};
 ghost use Rattle.house_state.specs.Founding.{FoundsHouse};
 ghost use Rattle.scrip_form.specs.Texts.{IsTarget};
-ghost use Rattle.mc_records.specs.Requests.{asked_of};
+ghost use Rattle.mc_requests.specs.Requests.{asked_of};
 ghost use Rattle.mc_records.specs.Views.{deed_of, entry};
 ghost use Rattle.ledger_model.specs.Histories.{History, time};
 ghost use Rattle.ledger_model.specs.Answer as model;
@@ -33,9 +33,8 @@ use house_state::{
 };
 use kept_replies::{Deed, KeptNumber};
 use mc_base::{Moment, NoMemory};
-use mc_records::{
-    Limits, PieceList, Record, RecordDeed, Refusal, Request, SiteTerms, payloads_are_short,
-};
+use mc_records::{PieceList, Record, RecordDeed, SiteTerms, payloads_are_short};
+use mc_requests::{Limits, Refusal, Request};
 use scrip_journal::LearnFault;
 use std::alloc::Global;
 use std::marker::Model;

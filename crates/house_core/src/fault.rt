@@ -1,6 +1,6 @@
 //! Why a house takes no entry.
 
-use mc_records::Refusal;
+use mc_requests::Refusal;
 
 /// Why a request was not accepted.
 #[derive(Drop)]

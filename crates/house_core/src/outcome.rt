@@ -1,7 +1,7 @@
 use crate::house::House;
 use crate::settled::Settled;
 use kept_replies::KeptNumber;
-use mc_records::Refusal;
+use mc_requests::Refusal;
 use scrip_journal::Halted;
 
 /// What a house answers a request that it does not refuse.

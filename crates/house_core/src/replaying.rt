@@ -4,7 +4,7 @@ ghost use Rattle.std.specs.Prelude.{◌≡◌, ◌+◌, ◌≤◌, ◌↔◌, []
 ghost use Rattle.mc_records.specs.Chains.{TellsChain};
 ghost use Rattle.mc_records.specs.Entry.{Fits, Accept, Draw, moment_of, payload};
 ghost use Rattle.mc_records.specs.Views.{deed_of, entry};
-ghost use Rattle.mc_records.specs.Requests.{asked_of};
+ghost use Rattle.mc_requests.specs.Requests.{asked_of};
 ghost use Rattle.mc_records.specs.Sizes.{size, entry_size};
 ghost use Rattle.ledger_model.specs.Histories.{History, time};
 ghost use Rattle.ledger_model.specs.Lawful.{unbounded};
@@ -20,7 +20,8 @@ use crate::bench::{Bench, record_deed};
 use crate::spent::SpentPiece;
 use house_state::{Authorized, Presented, Trade, Unlawful, evaluate, fitted};
 use mc_base::NoMemory;
-use mc_records::{Limits, Record, RecordDeed, Request};
+use mc_records::{Record, RecordDeed};
+use mc_requests::{Limits, Request};
 use scrip_certs::hex_of;
 use scrip_form::Id;
 use scrip_journal::LearnFault;

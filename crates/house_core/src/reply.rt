@@ -7,7 +7,7 @@ ghost use Rattle.house_state.specs.Replying.{IsOfSite};
 
 use link_turns::Page;
 use mc_base::Moment;
-use mc_records::Refusal;
+use mc_requests::Refusal;
 use millicent_http::ReplyHead;
 
 /// Room in which replies are made, one after another. Whoever serves keeps one, and hands it down. What it

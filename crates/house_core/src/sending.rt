@@ -3,8 +3,8 @@
 ghost use Rattle.std.specs.Prelude.{◌≡◌, ◌<◌, [], ◌∷◌, ℕ, max, length, take, IsTrue, OnOk, OnErr, option_map};
 ghost use Rattle.mc_outside.specs.DiskView.{Ran};
 ghost use Rattle.mc_outside.specs.LinkView.{after_send, Failed};
-ghost use Rattle.mc_records.specs.declared.refusal.Refusal.TheVariants as refusals;
-ghost use Rattle.mc_records.specs.Requests.{Asked};
+ghost use Rattle.mc_requests.specs.declared.refusal.Refusal.TheVariants as refusals;
+ghost use Rattle.mc_requests.specs.Requests.{Asked};
 ghost use Rattle.ledger_model.specs.Histories.{History};
 ghost use Rattle.ledger_model.specs.Replies as ledger;
 ghost use Rattle.millicent_http.specs.declared.clock.Clock.TheVariants.{OfLinks};
@@ -22,7 +22,7 @@ use kept_replies::KeptNumber;
 use link_turns::Reply;
 use mc_base::Moment;
 use mc_outside::{Link, LinkFault, Outside};
-use mc_records::Refusal;
+use mc_requests::Refusal;
 use scrip_journal::Halted;
 
 impl<O: Outside, T: Trade> Link for House<O, T> {

@@ -2,8 +2,8 @@
 
 ghost use Rattle.std.specs.Prelude.{◌≡◌, ◌≤◌, [], codes, length, option_map, option_and_then, unwrap_or, Some, IfSome};
 ghost use Rattle.scrip_certs.specs.Digests.{reply_signature};
-ghost use Rattle.mc_records.specs.Requests.{seen};
-ghost use Rattle.mc_records.specs.Replies.{reply_head, reply_text};
+ghost use Rattle.mc_requests.specs.Requests.{seen};
+ghost use Rattle.mc_requests.specs.Replies.{reply_head, reply_text};
 ghost use Rattle.ledger_model.specs.Histories.{History};
 ghost use Rattle.ledger_model.specs.Replies as ledger;
 ghost use Rattle.millicent_http.specs.ReplyHeads.{IsReplyHead, reply_of};
@@ -17,7 +17,7 @@ use house_state::{Body, HouseState, Presented, terms_of};
 use kept_replies::KeptEntry;
 use link_turns::Reply;
 use mc_base::Moment;
-use mc_records::{Refusal, Request};
+use mc_requests::{Refusal, Request};
 use millicent_http::{ReplyHead, write_reply_text};
 use scrip_certs::sign_reply;
 

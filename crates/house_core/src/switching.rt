@@ -11,7 +11,8 @@ use crate::house::House;
 use crate::outcome::Outcome;
 use house_state::{Trade, fitted};
 use mc_outside::Disk;
-use mc_records::{Record, Refusal};
+use mc_records::Record;
+use mc_requests::Refusal;
 use scrip_journal::{Receipt, SWITCH_PAYLOAD, StageFault};
 
 impl<D: Disk, T: Trade> House<D, T> {

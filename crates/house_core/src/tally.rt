@@ -6,7 +6,7 @@ ghost use Rattle.ledger_model.specs.Sums.{price_paid};
 ghost use Rattle.house_core.specs.Tallies.{AreCounts, IsWithin, Taken, Repeated, RefusedBy, change_given, counted, no_tally, tallied, told_stop};
 
 use house_state::NotAuthorized;
-use mc_records::Refusal;
+use mc_requests::Refusal;
 
 /// How many items were answered in which way, and the sums that the accepted requests paid and were given
 /// back. A count stays at the greatest number of its type once it is there.

@@ -17,7 +17,8 @@ use crate::outcome::Outcome;
 use house_state::Trade;
 use mc_base::Moment;
 use mc_outside::Disk;
-use mc_records::{Record, Refusal};
+use mc_records::Record;
+use mc_requests::Refusal;
 use scrip_form::{Name, Terms};
 use scrip_journal::Receipt;
 

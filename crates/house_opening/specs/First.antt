@@ -1,6 +1,6 @@
 -- What comes first in the book of a house.
 use Rattle.std.specs.Prelude.{[]}
-use Rattle.mc_records.specs.declared.limits.Limits.{Limits}
+use Rattle.mc_requests.specs.declared.limits.Limits.{Limits}
 use Rattle.mc_records.specs.Entry.{Entry, Site, Switch}
 use Rattle.mc_records.specs.Chains.{TellsChain}
 use Rattle.ledger_model.specs.Histories.{History}

@@ -1,7 +1,7 @@
 -- What founding the book of a house answers.
 use Rattle.std.specs.Prelude.{◌≡◌, ℕ, List, [], ◌∷◌, Result, Ok, Err}
 use Rattle.mc_outside.specs.DiskView.{DiskView}
-use Rattle.mc_records.specs.declared.limits.Limits.{Limits}
+use Rattle.mc_requests.specs.declared.limits.Limits.{Limits}
 use Rattle.mc_records.specs.Entry.{Entry, moment_of}
 use Rattle.scrip_journal.specs.Founds.{IsFree, IsTaken}
 use Rattle.scrip_journal.specs.declared.fault.HouseFault.{HouseFault}

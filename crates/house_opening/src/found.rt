@@ -2,7 +2,7 @@
 
 ghost use Rattle.std.specs.Prelude.{◌≡◌, ◌+◌, ◌≤◌, [], ◌∷◌, List, ℕ, Some};
 ghost use Rattle.mc_outside.specs.DiskView.{Ran};
-ghost use Rattle.mc_records.specs.Limits.{AreInRange};
+ghost use Rattle.mc_requests.specs.Limits.{AreInRange};
 ghost use Rattle.mc_records.specs.Sizes.{entry_size};
 ghost use Rattle.mc_records.specs.Views.{entry};
 ghost use Rattle.ledger_model.specs.Houses.{site_kind};
@@ -18,7 +18,8 @@ use house_core::{Bench, House};
 use house_state::Trade;
 use mc_base::NoMemory;
 use mc_outside::Disk;
-use mc_records::{Limits, Record};
+use mc_records::Record;
+use mc_requests::Limits;
 use scrip_journal::{HouseFault, found_book};
 use std::alloc::Global;
 

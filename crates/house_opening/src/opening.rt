@@ -2,7 +2,7 @@
 
 ghost use Rattle.std.specs.Prelude.{◌≡◌, [], List, ℕ, IfOk, Some};
 ghost use Rattle.mc_outside.specs.DiskView.{OnlyRead};
-ghost use Rattle.mc_records.specs.Limits.{AreInRange};
+ghost use Rattle.mc_requests.specs.Limits.{AreInRange};
 ghost use Rattle.book_opening.specs.Opening.{CountedBy};
 ghost use Rattle.house_core.specs.Bench.{limits_of};
 ghost use Rattle.house_opening.specs.Opening.{house_disk, OpensHouse};
@@ -12,7 +12,8 @@ use house_core::{Bench, House};
 use house_state::Trade;
 use mc_base::NoMemory;
 use mc_outside::Disk;
-use mc_records::{Limits, Record};
+use mc_records::Record;
+use mc_requests::Limits;
 use scrip_journal::{HouseFault, LearnFault};
 use std::alloc::Global;
 

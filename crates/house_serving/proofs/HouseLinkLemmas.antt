@@ -3,7 +3,7 @@ use Rattle.std.proofs.Common.{◌≡◌, inl, inr, ℕ, ◌<◌, suc, false, Lis
 use Rattle.std.proofs.lemmas.List.{append-nil}
 use Rattle.mc_outside.specs.DiskView.{DiskView, IsDisk, LinkKeeps}
 use Rattle.mc_outside.specs.LinkView.{LinkView, LinkGoes, next_taken, none_left}
-use Rattle.mc_records.specs.declared.limits.Limits.{Limits}
+use Rattle.mc_requests.specs.declared.limits.Limits.{Limits}
 use Rattle.mc_records.specs.Entry.{Entry}
 use Rattle.ledger_model.specs.Histories.{History}
 use Rattle.millicent_http.specs.Held.{Held, nothing_held}

@@ -1,7 +1,7 @@
 -- Links one after another.
 use Rattle.std.proofs.Common.{◌≡◌, inl, inr, ℕ, suc, ◌<◌, List, subst, Ok, Err}
 use Rattle.mc_outside.specs.LinkView.{LinkView, next_taken, none_left}
-use Rattle.mc_records.specs.declared.limits.Limits.{Limits}
+use Rattle.mc_requests.specs.declared.limits.Limits.{Limits}
 use Rattle.millicent_http.specs.declared.clock.Clock.{Clock}
 use Rattle.millicent_http.specs.Steps.{Did, state_after, StepRelation}
 use Rattle.millicent_http.specs.Courses.{HadLink, HadLinks, NoLink}

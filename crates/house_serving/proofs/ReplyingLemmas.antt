@@ -1,7 +1,7 @@
 -- Replying to a whole link, item by item.
 use Rattle.std.proofs.Common.{◌≡◌, ◌⊎◌, inl, inr, ℕ, ◌+◌, ◌≤◌, ◌<◌, true, false, List, [], ◌∷◌, ◌++◌, length, All, refl, sym, ap, ◌∙◌, arith, length-append, subst}
 use Rattle.std.proofs.lemmas.List.Elements.{All-nil, All-push}
-use Rattle.mc_records.specs.declared.limits.Limits.{Limits}
+use Rattle.mc_requests.specs.declared.limits.Limits.{Limits}
 use Rattle.millicent_http.specs.Items.{Item, closes, NextItem, EndsNoItem}
 use Rattle.millicent_http.specs.Reads.{HaveRead, NoneCloses}
 use Rattle.millicent_http.proofs.ReadLemmas.{read_item, read_all, read_closed}

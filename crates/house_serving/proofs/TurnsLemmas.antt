@@ -2,7 +2,7 @@
 use Rattle.std.proofs.Common.{◌≡◌, ◌+◌, ◌<◌, List, subst}
 use Rattle.std.specs.Prelude.{IsTrue}
 use Rattle.mc_outside.specs.LinkView.{LinkView}
-use Rattle.mc_records.specs.declared.limits.Limits.{Limits}
+use Rattle.mc_requests.specs.declared.limits.Limits.{Limits}
 use Rattle.millicent_http.specs.Held.{Held, nothing_held}
 use Rattle.ledger_model.specs.Histories.{History}
 use Rattle.millicent_http.specs.declared.clock.Clock.{Clock}

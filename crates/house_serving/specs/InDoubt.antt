@@ -1,10 +1,10 @@
 -- How a link ends where the disk fails: with the refusal that tells so.
 use Rattle.std.specs.Prelude.{◌≡◌, ℕ, ◌<◌, Bool, false, List, [], ◌∷◌, ◌++◌, Option}
 use Rattle.mc_outside.specs.LinkView.{LinkView, next_taken, after_recv, after_send}
-use Rattle.mc_records.specs.declared.limits.Limits.{Limits}
-use Rattle.mc_records.specs.declared.refusal.Refusal.TheVariants.{DiskFault}
+use Rattle.mc_requests.specs.declared.limits.Limits.{Limits}
+use Rattle.mc_requests.specs.declared.refusal.Refusal.TheVariants.{DiskFault}
 use Rattle.mc_records.specs.Entry.{Entry}
-use Rattle.mc_records.specs.Requests.{Asked}
+use Rattle.mc_requests.specs.Requests.{Asked}
 use Rattle.ledger_model.specs.Answer.{answer, Take}
 use Rattle.ledger_model.specs.Replies.{refusal_of}
 use Rattle.millicent_http.specs.declared.item.After.{After}

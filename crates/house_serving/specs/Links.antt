@@ -3,11 +3,11 @@ use Rattle.std.specs.Prelude.{◌≡◌, ◌<◌, ◌⊎◌, ℕ, Bool, false, I
 use Rattle.mc_outside.specs.Bytes.{Rose}
 use Rattle.mc_outside.specs.DiskView.{DiskView}
 use Rattle.mc_outside.specs.LinkView.{LinkView}
-use Rattle.mc_records.specs.declared.limits.Limits.{Limits}
-use Rattle.mc_records.specs.declared.refusal.Refusal.{Refusal}
-use Rattle.mc_records.specs.declared.refusal.Refusal.TheVariants.{DiskFault}
+use Rattle.mc_requests.specs.declared.limits.Limits.{Limits}
+use Rattle.mc_requests.specs.declared.refusal.Refusal.{Refusal}
+use Rattle.mc_requests.specs.declared.refusal.Refusal.TheVariants.{DiskFault}
 use Rattle.mc_records.specs.Entry.{Entry}
-use Rattle.mc_records.specs.Requests.{Asked}
+use Rattle.mc_requests.specs.Requests.{Asked}
 use Rattle.ledger_model.specs.Answer.{answer, Take}
 use Rattle.ledger_model.specs.Replies.{refusal_of}
 use Rattle.millicent_http.specs.declared.item.After.{After}

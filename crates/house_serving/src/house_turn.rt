@@ -19,7 +19,7 @@ use house_state::{Presented, Trade};
 use link_turns::{Turn, turn_of};
 use mc_base::Moment;
 use mc_outside::{Link, Outside};
-use mc_records::Refusal;
+use mc_requests::Refusal;
 use millicent_http::{After, HeadOut, HeadReader, HeadRefusal};
 use scrip_journal::Halted;
 

@@ -1,7 +1,7 @@
 -- The state before and after a draw was entered, by what the calls on the way say.
 use Rattle.std.proofs.Common.{◌^◌, ◌≡◌, ℕ, ◌+◌, ◌<◌, ◌≤◌, [], ◌∷◌, ◌++◌, None, refl, sym, ap, append-nil, ◌∙◌, arith}
 use Rattle.scrip_form.specs.Issuing.{epoch}
-use Rattle.mc_records.specs.Requests.{Asked}
+use Rattle.mc_requests.specs.Requests.{Asked}
 use Rattle.kept_replies.specs.declared.deed.Deed.{Deed}
 use Rattle.kept_replies.specs.Kept.{KeptReply, KeptView, kept_with}
 use Rattle.kept_replies.proofs.InsertLaws.{inserted_last}

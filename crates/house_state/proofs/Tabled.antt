@@ -6,10 +6,10 @@ use Rattle.scrip_form.specs.Identities.{issuer_of, epoch_of}
 use Rattle.scrip_form.specs.Issuing.{Issuing, epoch, series_at, series_end}
 use Rattle.scrip_form.specs.Scrip.{Certified}
 use Rattle.scrip_certs.specs.Digests.{request_signature}
-use Rattle.mc_records.specs.declared.limits.Limits.{Limits}
-use Rattle.mc_records.specs.declared.refusal.Refusal.TheVariants.{WrongVendor, UnknownIssuer, ExpiryMismatch, Expired, Spent, NeedSignature, BadSignature, NoAccount}
+use Rattle.mc_requests.specs.declared.limits.Limits.{Limits}
+use Rattle.mc_requests.specs.declared.refusal.Refusal.TheVariants.{WrongVendor, UnknownIssuer, ExpiryMismatch, Expired, Spent, NeedSignature, BadSignature, NoAccount}
 use Rattle.mc_records.specs.Entry.{Entry, Accept, Draw}
-use Rattle.mc_records.specs.Requests.{Asked}
+use Rattle.mc_requests.specs.Requests.{Asked}
 use Rattle.mc_records.specs.Sizes.{tail_bytes}
 use Rattle.mc_records.proofs.SizeLaws.{length-tail, tail_size-by}
 use Rattle.kept_replies.specs.Kept.{found}

@@ -1,6 +1,6 @@
 -- The state of a house that was just founded.
 use Rattle.std.specs.Prelude.{◌≡◌, ℕ, ◌+◌, false, List, [], ◌∷◌, length, Some}
-use Rattle.mc_records.specs.declared.limits.Limits.{Limits}
+use Rattle.mc_requests.specs.declared.limits.Limits.{Limits}
 use Rattle.mc_records.specs.Entry.{House, Entry, Site, Fits, payload}
 use Rattle.mc_records.specs.Sizes.{empty_size, framed_size, tail_bytes}
 use Rattle.change_issue.specs.Registers.{count_in, issued_in, redeemed_in}

@@ -5,12 +5,12 @@ use Rattle.scrip_form.specs.Identities.{issuer_of, epoch_of, series_of}
 use Rattle.scrip_form.specs.Issuing.{Issuing, epoch, series_at, series_end}
 use Rattle.scrip_form.specs.Scrip.{Scrip, scrip_body, scrip_text}
 use Rattle.scrip_certs.specs.Digests.{certificate, customer_secret}
-use Rattle.mc_records.specs.declared.limits.TheConstants.Limits.{MOST_JOURNAL}
-use Rattle.mc_records.specs.declared.limits.Limits.{Limits}
-use Rattle.mc_records.specs.Limits.{AreInRange}
+use Rattle.mc_requests.specs.declared.limits.TheConstants.Limits.{MOST_JOURNAL}
+use Rattle.mc_requests.specs.declared.limits.Limits.{Limits}
+use Rattle.mc_requests.specs.Limits.{AreInRange}
 use Rattle.mc_records.specs.Entry.{Entry, AddTerms, Mint, Upgrade, Switch}
 use Rattle.mc_records.specs.Chains.{is_switch}
-use Rattle.mc_records.specs.Requests.{Asked}
+use Rattle.mc_requests.specs.Requests.{Asked}
 use Rattle.mc_records.specs.Sizes.{tail_bytes, framed_size}
 use Rattle.ledger_model.specs.Houses.{upgrades_of, version_by, upgrade_by, all_terms, terms_by}
 use Rattle.ledger_model.specs.declared.upgraded.Upgraded.{Upgraded}

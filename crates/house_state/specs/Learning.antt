@@ -3,7 +3,7 @@
 use Rattle.std.specs.Prelude.{◌≡◌, ℕ, ◌+◌, ◌<◌, ◌≤◌, ◌⊎◌, ◌==◌, ◌||◌, Bool, IsTrue, IsFalse, IsNone, IsSome, List, [], ◌∷◌, ◌++◌, length, Some, option_and_then, MatchOption}
 use Rattle.scrip_form.specs.Issuing.{epoch}
 use Rattle.mc_records.specs.declared.ranges.TheConstants.{MOST_IN_ACCOUNT}
-use Rattle.mc_records.specs.declared.limits.Limits.{Limits}
+use Rattle.mc_requests.specs.declared.limits.Limits.{Limits}
 use Rattle.mc_records.specs.Entry.{Entry, Site, AddTerms, Goods, Accept, Mint, Account, Deposit, Withdraw, Draw, Licence, Stock, Upgrade, Switch, Note, Fits, moment_of}
 use Rattle.mc_records.specs.Chains.{chain, has_switch}
 use Rattle.mc_records.specs.Following.{AllFollowBy}

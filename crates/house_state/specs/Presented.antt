@@ -1,7 +1,7 @@
 -- What was read of a request's scrip text.
 use Rattle.std.specs.Prelude.{◌≡◌, List, Option, ℕ, IfErr, Result}
 use Rattle.scrip_form.specs.Scrip.{Certified}
-use Rattle.mc_records.specs.declared.refusal.Refusal.{Refusal}
+use Rattle.mc_requests.specs.declared.refusal.Refusal.{Refusal}
 use Rattle.ledger_model.specs.Lines.{as_line}
 use Rattle.ledger_model.specs.Stages.{read_by}
 use Rattle.house_state.specs.Replying.{IsOfSite}

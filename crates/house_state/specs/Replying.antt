@@ -1,8 +1,8 @@
 -- What replies are made of.
 use Rattle.std.specs.Prelude.{◌≢◌, ◌<◌, ◌≤◌, IsTrue, length}
 use Rattle.mc_records.specs.declared.ranges.TheConstants.{MOST_CONTENTS}
-use Rattle.mc_records.specs.declared.refusal.Refusal.{Refusal}
-use Rattle.mc_records.specs.Refusals.{status_of}
+use Rattle.mc_requests.specs.declared.refusal.Refusal.{Refusal}
+use Rattle.mc_requests.specs.Refusals.{status_of}
 use Rattle.millicent_http.specs.ReplyHeads.{is_status}
 use Rattle.house_state.specs.declared.offer.Body.{Body}
 

@@ -2,8 +2,8 @@
 use Rattle.std.specs.Prelude.{◌≡◌, ℕ, ◌≤◌, ◌==◌, Bool, false, List, codes, filter, length, Option, Some, option_map, unwrap_or, position, slice_get, ◌<◌, take, All, IfSome}
 use Rattle.scrip_form.specs.Identities.{series_of}
 use Rattle.scrip_form.specs.Scrip.{Scrip}
-use Rattle.mc_records.specs.Limits.{AreInRange}
-use Rattle.mc_records.specs.Requests.{Asked}
+use Rattle.mc_requests.specs.Limits.{AreInRange}
+use Rattle.mc_requests.specs.Requests.{Asked}
 use Rattle.mc_records.specs.Chains.{has_switch}
 use Rattle.mc_records.specs.Sizes.{size}
 use Rattle.kept_replies.specs.Kept.{KeptReply, found}

@@ -3,7 +3,7 @@
 ghost use Rattle.std.specs.Prelude.{◌≡◌, ◌<◌, ◌≤◌, Some, None, Ok, IfSome, IfOk, IfErr, OnOk};
 ghost use Rattle.ledger_model.specs.Stages.{genuine_by, read_by};
 ghost use Rattle.mc_records.specs.Entry.{IsKey};
-ghost use Rattle.mc_records.specs.Requests.{asked_of};
+ghost use Rattle.mc_requests.specs.Requests.{asked_of};
 ghost use Rattle.kept_replies.specs.Kept.{found};
 ghost use Rattle.ledger_model.specs.Histories.{History};
 ghost use Rattle.ledger_model.specs.Houses.{site_kind};
@@ -24,7 +24,7 @@ use crate::presented::{Presented, without_scrip};
 use crate::stages::{change, drawable, fitted, genuine, next_own, payable, spendable};
 use crate::trade::Trade;
 use crate::verdict::{Authorization, Authorized, DrawAuthorization, NotAuthorized, Spendable};
-use mc_records::{Limits, Refusal, Request};
+use mc_requests::{Limits, Refusal, Request};
 use scrip_form::ScripRef;
 
 /// What is given for a piece that may be spent; refused where the trade refuses it, the series of the

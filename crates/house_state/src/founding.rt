@@ -2,14 +2,15 @@
 
 ghost use Rattle.std.specs.Prelude.{◌≡◌, ◌<◌, ◌^◌, [], length, IfOk};
 ghost use Rattle.mc_records.specs.Entry.{payload};
-ghost use Rattle.mc_records.specs.Limits.{AreInRange};
+ghost use Rattle.mc_requests.specs.Limits.{AreInRange};
 ghost use Rattle.mc_records.specs.Views.{entry};
 ghost use Rattle.ledger_model.specs.Lawful.{MayFollow};
 ghost use Rattle.house_state.specs.Founding.{IsStateOf, FoundsHouse};
 
 use crate::house_state::HouseState;
 use mc_base::NoMemory;
-use mc_records::{Limits, PieceList, Record};
+use mc_records::{PieceList, Record};
+use mc_requests::Limits;
 use scrip_form::Name;
 use std::alloc::Global;
 
@@ -27,7 +28,7 @@ pub fn found_state(
     requires short { bytes < 2 ^ 32 }
     ensures { IfOk result (λ b. IsStateOf b limits (entry site.now)) }
 {
-    let _pieces: Option<PieceList<'_>> = None;
+    let _parts: Option<PieceList<'_>> = None;
     match site {
         Record::Site {
             moment,

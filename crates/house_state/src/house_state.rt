@@ -2,8 +2,8 @@ ghost use Rattle.std.specs.Prelude.{◌≡◌, ◌+◌, ◌||◌, ◌-◌, ◌�
 ghost use Rattle.scrip_form.specs.Identities.{series_of};
 ghost use Rattle.scrip_form.specs.Issuing.{epoch, series_at};
 ghost use Rattle.scrip_form.specs.Scrip.{scrip_body, IsVersion};
-ghost use Rattle.mc_records.specs.declared.refusal.Refusal.TheVariants.{SeriesFull};
-ghost use Rattle.mc_records.specs.Limits.{AreInRange};
+ghost use Rattle.mc_requests.specs.declared.refusal.Refusal.TheVariants.{SeriesFull};
+ghost use Rattle.mc_requests.specs.Limits.{AreInRange};
 ghost use Rattle.change_issue.specs.Registers.{count_in, next_in};
 ghost use Rattle.mc_records.specs.Views.{house_of, entry};
 ghost use Rattle.mc_records.specs.Entry.{Fits};
@@ -12,7 +12,7 @@ ghost use Rattle.ledger_model.specs.Houses.{terms_by, upgrade_by};
 ghost use Rattle.house_state.specs.Views.{kind_number};
 ghost use Rattle.house_state.specs.CommandEntries.{IsNoSite};
 ghost use Rattle.house_state.specs.Founding.{IsFounded};
-ghost use Rattle.mc_records.specs.Requests.{asked_of};
+ghost use Rattle.mc_requests.specs.Requests.{asked_of};
 ghost use Rattle.kept_replies.specs.Kept.{found, has_number, is_in_time, reply_of, with_number, first_number};
 ghost use Rattle.spent_windows.specs.Windows.{is_marked, window_of, AreInOrder};
 ghost use Rattle.house_state.specs.LiveWindows.{AreUsed, AreUsedBut};
@@ -30,9 +30,8 @@ use change_issue::Issuer;
 use kept_replies::{Kept, KeptEntry, KeptNumber};
 use ledger_model::Upgraded;
 use mc_base::{Moment, NoMemory, Total};
-use mc_records::{
-    EMPTY_JOURNAL, FRAME, Limits, PieceList, Record, Refusal, Request, SiteTerms, tail_len,
-};
+use mc_records::{EMPTY_JOURNAL, FRAME, PieceList, Record, SiteTerms, tail_len};
+use mc_requests::{Limits, Refusal, Request};
 use scrip_certs::{certificate_of, customer_secret, write_certified};
 use scrip_form::{Id, Name, Piece, Terms};
 use spent_windows::{Look, Steps, Windows};
@@ -410,7 +409,7 @@ impl HouseState {
         requires { Fits (entry r.now) }
         ensures { IsTrue result ↔ GoesOn self.now (kind_number kind) (entry r.now) }
     {
-        let _pieces: Option<PieceList<'_>> = None;
+        let _parts: Option<PieceList<'_>> = None;
         match r {
             Record::Mint {
                 moment,

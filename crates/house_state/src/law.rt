@@ -2,7 +2,7 @@
 
 ghost use Rattle.std.specs.Prelude.{◌≡◌, ◌≤◌, ◌↔◌, ℕ, ◌∷◌, ◌++◌, length, Some};
 ghost use Rattle.kept_replies.specs.declared.deed.Deed.{Deed};
-ghost use Rattle.mc_records.specs.declared.limits.Limits.{Limits as Bounds};
+ghost use Rattle.mc_requests.specs.declared.limits.Limits.{Limits as Bounds};
 ghost use Rattle.mc_records.specs.Entry.{Entry};
 ghost use Rattle.ledger_model.specs.Histories.{History};
 ghost use Rattle.ledger_model.specs.Houses.{IsHouseKind};

@@ -1,13 +1,13 @@
 //! A request as a house answers it: with its scrip text read.
 
 ghost use Rattle.std.specs.Prelude.{◌≡◌, IfErr};
-ghost use Rattle.mc_records.specs.Requests.{asked_of};
+ghost use Rattle.mc_requests.specs.Requests.{asked_of};
 ghost use Rattle.ledger_model.specs.Lines.{as_line};
 ghost use Rattle.ledger_model.specs.Stages.{read_by};
 ghost use Rattle.ledger_model.specs.Answer.{without_scrip};
 ghost use Rattle.house_state.specs.Replying.{IsOfSite};
 
-use mc_records::{Refusal, Request};
+use mc_requests::{Refusal, Request};
 use scrip_form::{ScripRef, read_scrip};
 use std::marker::Model;
 
@@ -21,7 +21,7 @@ pub struct Presented<'a> {
 }
 
 impl<'a> Model for Presented<'a> {
-    ghost use Rattle.mc_records.specs.Requests.{Asked, asked_of, seen};
+    ghost use Rattle.mc_requests.specs.Requests.{Asked, asked_of, seen};
     ghost use Rattle.house_state.specs.Presented.{IsReading};
 
     ghost Value = { Asked };

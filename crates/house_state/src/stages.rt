@@ -4,7 +4,7 @@ ghost use Rattle.std.specs.Prelude.{◌≡◌, ◌<◌, ◌≤◌, ◌==◌, nat
 ghost use Rattle.scrip_form.specs.Issuing.{series_at};
 ghost use Rattle.mc_records.specs.Entry.{IsKey};
 ghost use Rattle.mc_records.specs.Entry as entries;
-ghost use Rattle.mc_records.specs.Requests.{seen};
+ghost use Rattle.mc_requests.specs.Requests.{seen};
 ghost use Rattle.change_issue.specs.Registers.{count_in, next_in};
 ghost use Rattle.ledger_model.specs.Houses.{terms_by};
 ghost use Rattle.ledger_model.specs.Stages.{genuine_by, spendable_by, next_by, needed, drawable_by, payable_by, fitted_by};
@@ -19,7 +19,8 @@ use crate::offer::DrawAsk;
 use crate::verdict::Spendable;
 use change_issue::Issuer;
 use mc_base::Moment;
-use mc_records::{Refusal, Request, grown_size};
+use mc_records::grown_size;
+use mc_requests::{Refusal, Request};
 use scrip_certs::{certificate, hex_of, sign_request};
 use scrip_form::{Id, ScripRef, Terms};
 use spent_windows::Look;

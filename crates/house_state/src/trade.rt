@@ -1,5 +1,5 @@
 ghost use Rattle.std.specs.Prelude.{◌≡◌, ℕ, List, ◌↔◌, [], ◌∷◌, ◌++◌, Some, ◌<◌, ◌≤◌, ◌^◌, IfSome, IfOk, IfErr, IsOk, OnOk, OnErr};
-ghost use Rattle.mc_records.specs.declared.limits.Limits.{Limits as Bounds};
+ghost use Rattle.mc_requests.specs.declared.limits.Limits.{Limits as Bounds};
 ghost use Rattle.mc_records.specs.Entry.{Entry, Switch};
 ghost use Rattle.mc_records.specs.Views.{entry};
 ghost use Rattle.ledger_model.specs.Histories.{History};
@@ -15,7 +15,8 @@ ghost use Rattle.house_state.specs.Replying.{AreContents, IsOfSite};
 use crate::offer::{Body, DrawAsk, Offer, SiteKind, Unlawful};
 use kept_replies::Deed;
 use mc_base::{Amount, Moment, NoMemory};
-use mc_records::{Limits, Record, Refusal};
+use mc_records::Record;
+use mc_requests::{Limits, Refusal};
 
 /// What a site offers for scrip, as far as a history says something of it: goods, or accounts, licences
 /// and stock. A trade represents a history, whose entries it learns one by one, and answers as the

@@ -4,7 +4,7 @@ ghost use Rattle.house_state.specs.Verdicts.{change_of, fresh_of, payload_of, pr
 
 use kept_replies::{Deed, KeptNumber};
 use mc_base::Amount;
-use mc_records::Refusal;
+use mc_requests::Refusal;
 use scrip_form::{Id, Name, ScripRef};
 use spent_windows::Fresh;
 

@@ -1,6 +1,6 @@
 -- Where the program stores the bytes of a reply. No clause of a public call cites this.
 use Rattle.std.specs.Prelude.{ℕ, ◌+◌, ◌≤◌, List, length, slice_range}
-use Rattle.mc_records.specs.Requests.{Asked}
+use Rattle.mc_requests.specs.Requests.{Asked}
 use Rattle.kept_replies.specs.Parts.{asked_in, entry_end, AreWithin}
 use Rattle.kept_replies.specs.declared.body.Parts.{Parts}
 use Rattle.kept_replies.specs.declared.body.Body.{Body}

@@ -1,8 +1,8 @@
 -- What is kept of first replies, without how it is stored.
 use Rattle.std.specs.Prelude.{ℕ, ◌+◌, ◌<◌, ◌≤◌, Bool, ◌&&◌, ◌==◌, nat_lt, if◌then◌else◌, List, [], ◌∷◌, ◌++◌, length, filter, find, All, IsTrue, Option, Some, None, option_map}
 use Rattle.std.specs.List.{list_any, AllByRecursion}
-use Rattle.mc_records.specs.declared.request.Request.{Request}
-use Rattle.mc_records.specs.Requests.{Asked, asked_of}
+use Rattle.mc_requests.specs.declared.request.Request.{Request}
+use Rattle.mc_requests.specs.Requests.{Asked, asked_of}
 use Rattle.scrip_form.specs.Scrip.{Scrip, scrip_text}
 use Rattle.kept_replies.specs.declared.deed.Deed.{Deed}
 use Rattle.kept_replies.specs.declared.deed.Deed.TheVariants as kept

@@ -6,7 +6,7 @@ use Rattle.mc_base.specs.declared.amount.TheConstants.Amount.{MOST}
 use Rattle.scrip_form.specs.declared.piece.TheConstants.Piece.{LAST_END}
 use Rattle.scrip_form.specs.Scrip.{Scrip, IsScripText}
 use Rattle.scrip_form.specs.Reading.{scrip_of}
-use Rattle.mc_records.specs.Requests.{Asked}
+use Rattle.mc_requests.specs.Requests.{Asked}
 use Rattle.kept_replies.specs.declared.deed.Deed.{Deed}
 use Rattle.kept_replies.specs.declared.deed.Deed.TheVariants as kept
 use Rattle.kept_replies.specs.declared.deed.KeptEntry.{KeptEntry}

@@ -1,6 +1,6 @@
 -- When two requests are the same, and how many bytes they have.
 use Rattle.std.specs.Prelude.{ℕ, ◌+◌, Bool, true, false, ◌&&◌, List, length, Option, Some, None, bytes_eq}
-use Rattle.mc_records.specs.Requests.{Asked}
+use Rattle.mc_requests.specs.Requests.{Asked}
 
 -- whether two texts, either of which may be absent, are the same
 abbrev pub is_same_text : Option (List ℕ) → Option (List ℕ) → Bool

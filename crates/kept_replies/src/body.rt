@@ -1,9 +1,9 @@
 ghost use Rattle.std.specs.Prelude.{◌≡◌, ◌≤◌, length, slice_range, IsTrue, IfOk, IfSome};
-ghost use Rattle.mc_records.specs.Requests.{asked_of};
+ghost use Rattle.mc_requests.specs.Requests.{asked_of};
 ghost use Rattle.kept_replies.specs.Body.{body_parts, body_bytes, body_asked, IsBody};
 
 use crate::parts::{AskedParts, EntryParts};
-use mc_records::Request;
+use mc_requests::Request;
 use std::alloc::AllocError;
 use std::rc::Rc;
 

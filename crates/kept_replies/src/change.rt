@@ -2,7 +2,7 @@
 //! its expiry, since the rest of it is as in the piece that was paid with.
 
 ghost use Rattle.std.specs.Prelude.{◌≡◌, ◌+◌, ◌≤◌, ◌<◌, vec_len, vec_capacity, IsTrue, Some};
-ghost use Rattle.mc_records.specs.Requests.{seen};
+ghost use Rattle.mc_requests.specs.Requests.{seen};
 ghost use Rattle.scrip_form.specs.Scrip.{IsScripText};
 ghost use Rattle.scrip_form.specs.Reading.{scrip_of};
 ghost use Rattle.kept_replies.specs.Parts.{StaysIn, IsScripThere, like_read, like_text, piece_read, change_end, change_in, ChangeIsWithin, IsLike, AreAlike};

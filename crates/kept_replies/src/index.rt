@@ -1,10 +1,10 @@
 ghost use Rattle.std.specs.Prelude.{◌≡◌, ℕ, ◌%◌, ◌<◌, Bool, [], ◌==◌, ◌&&◌, ◌||◌, IfSome, Some, IsTrue, IsFalse, OnOk, length, vec_len, vec_capacity};
 ghost use Rattle.std.specs.List.{list_any, position};
-ghost use Rattle.mc_records.specs.Requests.{asked_of};
+ghost use Rattle.mc_requests.specs.Requests.{asked_of};
 ghost use Rattle.kept_replies.specs.Index.{text_tag, request_tag, first_place, second_place, bucket_at, marked_in, slot_leads, leads_in, leads};
 
 use mc_base::NoMemory;
-use mc_records::Request;
+use mc_requests::Request;
 use std::alloc::Global;
 use std::marker::Model;
 

@@ -1,6 +1,6 @@
 ghost use Rattle.std.specs.Prelude.{◌≡◌, ◌+◌, ◌<◌, ◌≤◌, ◌^◌, ◌↔◌, ◌||◌, [], All, IsTrue, IsFalse, IsNone, IsSome, IfSome, IfOk, OnOk, filter, find, length, remove, option_map, option_copied};
 ghost use Rattle.std.specs.VecDeque.{deque_len, deque_capacity};
-ghost use Rattle.mc_records.specs.Requests.{asked_of};
+ghost use Rattle.mc_requests.specs.Requests.{asked_of};
 ghost use Rattle.kept_replies.specs.Requests.{text_size};
 ghost use Rattle.kept_replies.specs.Index.{slot_leads};
 ghost use Rattle.kept_replies.specs.Store.{AreInOrder, IsPlaceOf, has_mark, is_repeat};
@@ -14,7 +14,7 @@ use crate::reply::Reply;
 use crate::together::put_together;
 use crate::{KeptEntry, KeptNumber};
 use mc_base::{Moment, NoMemory};
-use mc_records::Request;
+use mc_requests::Request;
 use scrip_form::ScripRef;
 use std::alloc::Global;
 use std::collections::VecDeque;

@@ -2,7 +2,7 @@
 //! stands where each ends.
 
 ghost use Rattle.std.specs.Prelude.{◌≡◌, ◌+◌, ◌≤◌, ◌<◌, ◌^◌, length, vec_len, vec_capacity};
-ghost use Rattle.mc_records.specs.Requests.{seen, asked_of};
+ghost use Rattle.mc_requests.specs.Requests.{seen, asked_of};
 ghost use Rattle.kept_replies.specs.Requests.{text_size};
 ghost use Rattle.kept_replies.specs.Kept.{deed_size, entry_size};
 ghost use Rattle.kept_replies.specs.Parts.{StaysIn, number_at, deed_end, deed_in, DeedIsWithin, asked_in, AskedIsWithin, entry_end, entry_in, EntryIsWithin};
@@ -13,7 +13,7 @@ use crate::sold::{put_sold, sold_of};
 use crate::span::{put, put_if, text_at};
 use crate::{Deed, KeptEntry};
 use mc_base::Moment;
-use mc_records::Request;
+use mc_requests::Request;
 use scrip_form::ScripRef;
 
 /// The most bytes that an entry takes beside its texts: its moment, its price, its secret, its change as a text,

@@ -1,5 +1,5 @@
 ghost use Rattle.std.specs.Prelude.{◌≡◌, ◌+◌, ◌≤◌, ◌<◌, ◌^◌, [], vec_capacity};
-ghost use Rattle.mc_records.specs.Requests.{seen, asked_of};
+ghost use Rattle.mc_requests.specs.Requests.{seen, asked_of};
 ghost use Rattle.kept_replies.specs.Requests.{is_same_text, is_same_request, text_size};
 ghost use Rattle.kept_replies.specs.Kept.{entry_size, is_in_time};
 
@@ -7,7 +7,7 @@ use crate::KeptEntry;
 use crate::body::{Body, Parts};
 use crate::parts::{AskedParts, EntryParts, MOST_BESIDE};
 use mc_base::Moment;
-use mc_records::Request;
+use mc_requests::Request;
 use scrip_form::ScripRef;
 use std::alloc::AllocError;
 use std::marker::Model;

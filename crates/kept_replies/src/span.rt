@@ -1,5 +1,5 @@
 ghost use Rattle.std.specs.Prelude.{◌≡◌, ◌+◌, ◌≤◌, ◌<◌, ◌^◌, length, vec_len, vec_capacity, slice_range};
-ghost use Rattle.mc_records.specs.Requests.{seen};
+ghost use Rattle.mc_requests.specs.Requests.{seen};
 ghost use Rattle.kept_replies.specs.Requests.{size_of_text};
 ghost use Rattle.kept_replies.specs.Parts.{StaysIn, text_if, is_there};
 

@@ -8,9 +8,9 @@ use Rattle.std.proofs.lemmas.Bool.Decides.{nat_tests}
 use Rattle.std.proofs.lemmas.List.Sums.{sum_by-cons}
 use Rattle.scrip_form.specs.Scrip.{Scrip}
 use Rattle.mc_records.specs.declared.ranges.TheConstants.{MOST_IN_ACCOUNT}
-use Rattle.mc_records.specs.declared.limits.Limits.{Limits}
-use Rattle.mc_records.specs.declared.refusal.Refusal.TheVariants.{TooLittle, NoSuchGoods, NoAccount, AccountFull}
-use Rattle.mc_records.specs.Errands.{Errand, buy, pay_in, draw, errand_of}
+use Rattle.mc_requests.specs.declared.limits.Limits.{Limits}
+use Rattle.mc_requests.specs.declared.refusal.Refusal.TheVariants.{TooLittle, NoSuchGoods, NoAccount, AccountFull}
+use Rattle.mc_requests.specs.Errands.{Errand, buy, pay_in, draw, errand_of}
 use Rattle.mc_records.specs.Entry.{Deed, goods_deed, credit, Entry, Accept, Draw}
 use Rattle.ledger_model.specs.Histories.{History}
 use Rattle.ledger_model.specs.Houses.{is_vendor, fee}

@@ -6,8 +6,8 @@ use Rattle.std.proofs.lemmas.List.Elements.{filter_map-append}
 use Rattle.std.proofs.lemmas.Option.{same_Some}
 use Rattle.std.proofs.lemmas.Slice.Eq.{bytes_eq-Decides}
 use Rattle.mc_records.specs.declared.ranges.TheConstants.{MOST_IN_ACCOUNT}
-use Rattle.mc_records.specs.declared.limits.Limits.{Limits}
-use Rattle.mc_records.specs.Errands.{Errand}
+use Rattle.mc_requests.specs.declared.limits.Limits.{Limits}
+use Rattle.mc_requests.specs.Errands.{Errand}
 use Rattle.mc_records.specs.Entry.{goods_deed, sale, credit, Entry, Accept, Account, Deposit, Withdraw, Draw}
 use Rattle.ledger_model.specs.Histories.{History}
 use Rattle.ledger_model.specs.Orders.{Order}

@@ -10,13 +10,13 @@ use Rattle.scrip_form.specs.Issuing.{Issuing}
 use Rattle.scrip_form.specs.Scrip.{scrip_body, scrip_text, text_version}
 use Rattle.scrip_form.specs.Reading.{scrip_of, scrip_at, id_at}
 use Rattle.scrip_certs.specs.Digests.{digest, certificate, customer_secret, request_signature, reply_signature}
-use Rattle.mc_records.specs.declared.limits.Limits.{Limits}
-use Rattle.mc_records.specs.declared.refusal.Refusal.TheVariants as refusals
-use Rattle.mc_records.specs.Refusals.{refusal_text}
-use Rattle.mc_records.specs.Dates.{date_of, parts_of, years_off, months_off}
-use Rattle.mc_records.specs.Replies.{reply_head, reply_text}
-use Rattle.mc_records.specs.Requests.{Asked}
-use Rattle.mc_records.specs.Errands.{errand_of, buy, pay_in, draw}
+use Rattle.mc_requests.specs.declared.limits.Limits.{Limits}
+use Rattle.mc_requests.specs.declared.refusal.Refusal.TheVariants as refusals
+use Rattle.mc_requests.specs.Refusals.{refusal_text}
+use Rattle.mc_requests.specs.Dates.{date_of, parts_of, years_off, months_off}
+use Rattle.mc_requests.specs.Replies.{reply_head, reply_text}
+use Rattle.mc_requests.specs.Requests.{Asked}
+use Rattle.mc_requests.specs.Errands.{errand_of, buy, pay_in, draw}
 use Rattle.mc_records.specs.Entry.{sale, credit, Held, Entry, Site, Accept, Account, Deposit, Withdraw, Draw, Licence, Stock}
 use Rattle.mc_records.specs.Sizes.{tail, tail_size}
 use Rattle.ledger_model.specs.Histories.{History}

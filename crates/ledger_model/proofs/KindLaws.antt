@@ -1,8 +1,8 @@
 -- Which sites are houses, and what a vendor does not have.
 use Rattle.std.proofs.Common.{◌≡◌, ℕ, zero, suc, ◌<◌, Bool, true, false, not, cond, List, [], ◌∷◌, Option, Some, None, bytes_eq, refl, ap, arith, rules, option_map}
 use Rattle.std.specs.Prelude.{◌==◌, unwrap_or, MatchOption}
-use Rattle.mc_records.specs.declared.limits.Limits.{Limits}
-use Rattle.mc_records.specs.declared.refusal.Refusal.TheVariants.{WrongVendor}
+use Rattle.mc_requests.specs.declared.limits.Limits.{Limits}
+use Rattle.mc_requests.specs.declared.refusal.Refusal.TheVariants.{WrongVendor}
 use Rattle.mc_records.specs.Entry.{Entry, Site, Accept, Draw, Upgrade}
 use Rattle.ledger_model.specs.Histories.{History}
 use Rattle.ledger_model.specs.Houses.{site_kind, IsHouseKind, is_vendor, is_broker, terms_in}

@@ -6,10 +6,10 @@ use Rattle.scrip_form.specs.Issuing.{Issuing, series_at}
 use Rattle.scrip_form.specs.Scrip.{Scrip}
 use Rattle.scrip_certs.specs.Digests.{request_signature}
 use Rattle.mc_records.specs.declared.ranges.TheConstants.{MOST_IN_ACCOUNT}
-use Rattle.mc_records.specs.declared.limits.Limits.{Limits}
-use Rattle.mc_records.specs.declared.refusal.Refusal.TheVariants.{TooLittle, NoSuchGoods, NoAccount, AccountFull, NoVendor, NoStock}
-use Rattle.mc_records.specs.Requests.{Asked}
-use Rattle.mc_records.specs.Errands.{Errand, buy, pay_in, draw, errand_of}
+use Rattle.mc_requests.specs.declared.limits.Limits.{Limits}
+use Rattle.mc_requests.specs.declared.refusal.Refusal.TheVariants.{TooLittle, NoSuchGoods, NoAccount, AccountFull, NoVendor, NoStock}
+use Rattle.mc_requests.specs.Requests.{Asked}
+use Rattle.mc_requests.specs.Errands.{Errand, buy, pay_in, draw, errand_of}
 use Rattle.mc_records.specs.Entry.{Deed, goods_deed, sale, credit, Entry, Accept, Draw}
 use Rattle.ledger_model.specs.Histories.{History}
 use Rattle.ledger_model.specs.Houses.{is_vendor, fee, own_series}

@@ -1,7 +1,7 @@
 -- The accounts of a broker.
 use Rattle.std.specs.Prelude.{ℕ, ◌-◌, Bool, false, if◌then◌else◌, bytes_eq, List, [], unwrap_or, Option, Some, None, option_map, option_and_then, find, filter_map, sum_by}
 use Rattle.std.specs.List.{last_or}
-use Rattle.mc_records.specs.Errands.{Errand, pay_in, errand_of}
+use Rattle.mc_requests.specs.Errands.{Errand, pay_in, errand_of}
 use Rattle.mc_records.specs.Entry.{credit, Entry, Accept, Account, Deposit, Withdraw, Draw}
 use Rattle.ledger_model.specs.Histories.{History}
 use Rattle.ledger_model.specs.Orders.{Order, order_of}

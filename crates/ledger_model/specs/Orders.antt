@@ -1,6 +1,6 @@
 -- What a draw asks for.
 use Rattle.std.specs.Prelude.{ℕ, List, Option, Some, None, option_map, unwrap_or}
-use Rattle.mc_records.specs.Errands.{Errand, draw, errand_of}
+use Rattle.mc_requests.specs.Errands.{Errand, draw, errand_of}
 
 -- so much out of an account, under a number that rises from draw to draw of the account
 pub record Order : Type 0 where

@@ -1,6 +1,6 @@
 -- Entries that accept nothing.
 use Rattle.std.specs.Prelude.{◌≡◌, ℕ, false, [], None}
-use Rattle.mc_records.specs.Requests.{Asked}
+use Rattle.mc_requests.specs.Requests.{Asked}
 use Rattle.mc_records.specs.Entry.{Entry}
 use Rattle.ledger_model.specs.Histories.{History}
 use Rattle.ledger_model.specs.Pieces.{accepted_piece, handed_piece}

@@ -5,7 +5,7 @@ use Rattle.scrip_form.specs.Identities.{epoch_of, series_of}
 use Rattle.scrip_form.specs.Issuing.{Issuing, series_end}
 use Rattle.scrip_form.specs.Scrip.{Scrip, scrip_body, scrip_text}
 use Rattle.scrip_certs.specs.Digests.{certificate, customer_secret}
-use Rattle.mc_records.specs.Errands.{Errand, buy, errand_of}
+use Rattle.mc_requests.specs.Errands.{Errand, buy, errand_of}
 use Rattle.mc_records.specs.Entry.{sale, Held, Entry, Accept, Licence, Stock}
 use Rattle.ledger_model.specs.Histories.{History}
 use Rattle.ledger_model.specs.Houses.{site_name, is_vendor, is_broker, terms_in, version}

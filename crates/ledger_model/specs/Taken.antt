@@ -5,7 +5,7 @@ use Rattle.scrip_form.specs.Issuing.{Issuing, series_at}
 use Rattle.scrip_form.specs.Scrip.{Scrip}
 use Rattle.scrip_certs.specs.Digests.{request_signature}
 use Rattle.mc_records.specs.declared.ranges.TheConstants.{MOST_IN_ACCOUNT}
-use Rattle.mc_records.specs.Errands.{buy, pay_in, errand_of}
+use Rattle.mc_requests.specs.Errands.{buy, pay_in, errand_of}
 use Rattle.ledger_model.specs.Histories.{History}
 use Rattle.ledger_model.specs.Houses.{fee, is_vendor, is_broker, own_series}
 use Rattle.ledger_model.specs.Goods.{price_in}

@@ -3,8 +3,8 @@
 ghost use Rattle.std.specs.Prelude.{◌≡◌, IsTrue, ℕ, ◌+◌, ◌^◌, ◌≤◌, Bool, true, List, Option, Some, bytes_eq, count_by, filter_map, sum_by};
 ghost use Rattle.std.specs.List.{AllByRecursion};
 ghost use Rattle.mc_records.specs.declared.ranges.TheConstants.{MOST_IN_ACCOUNT};
-ghost use Rattle.mc_records.specs.declared.limits.Limits.{Limits as Bounds};
-ghost use Rattle.mc_records.specs.Requests.{Asked};
+ghost use Rattle.mc_requests.specs.declared.limits.Limits.{Limits as Bounds};
+ghost use Rattle.mc_requests.specs.Requests.{Asked};
 ghost use Rattle.mc_records.specs.Entry.{Entry, Accept, Draw, goods_deed, sale, credit};
 ghost use Rattle.ledger_model.specs.Histories.{History};
 ghost use Rattle.ledger_model.specs.Houses.{site_kind};

@@ -1,11 +1,11 @@
 //! Laws over the definitions, each on a function that does nothing.
 
 ghost use Rattle.std.specs.Prelude.{◌≡◌, ◌↔◌, ◌+◌, ◌<◌, ◌≤◌, ◌^◌, ℕ, [], ◌∷◌, ◌++◌, length, not, List, Some, true, option_map, slice_get};
-ghost use Rattle.mc_records.specs.declared.limits.Limits.{Limits as Bounds};
-ghost use Rattle.mc_records.specs.declared.limits.TheConstants.Limits.{MOST_JOURNAL};
-ghost use Rattle.mc_records.specs.declared.refusal.Refusal.{Refusal};
-ghost use Rattle.mc_records.specs.Refusals.{number_of};
-ghost use Rattle.mc_records.specs.Requests.{Asked};
+ghost use Rattle.mc_requests.specs.declared.limits.Limits.{Limits as Bounds};
+ghost use Rattle.mc_requests.specs.declared.limits.TheConstants.Limits.{MOST_JOURNAL};
+ghost use Rattle.mc_requests.specs.declared.refusal.Refusal.{Refusal};
+ghost use Rattle.mc_requests.specs.Refusals.{number_of};
+ghost use Rattle.mc_requests.specs.Requests.{Asked};
 ghost use Rattle.mc_records.specs.Entry.{Entry};
 ghost use Rattle.mc_records.specs.Sizes.{size};
 ghost use Rattle.ledger_model.specs.Histories.{History, time};

@@ -3,8 +3,8 @@ use Rattle.std.proofs.Common.{◌≡◌, inr, ℕ, ◌+◌, ◌<◌, Bool, List,
 use Rattle.std.specs.Prelude.{IfOk}
 use Rattle.mc_outside.specs.LinkView.{LinkView, after_recv}
 use Rattle.scrip_form.specs.Texts.{IsTarget}
-use Rattle.mc_records.specs.declared.request.Request.{Request}
-use Rattle.mc_records.specs.Requests.{asked_of}
+use Rattle.mc_requests.specs.declared.request.Request.{Request}
+use Rattle.mc_requests.specs.Requests.{asked_of}
 use Rattle.millicent_http.specs.declared.item.After.{After}
 use Rattle.millicent_http.specs.declared.item.After.TheVariants as afters
 use Rattle.millicent_http.specs.declared.item.HeadRefusal.{HeadRefusal}

@@ -2,7 +2,7 @@
 
 ghost use Rattle.std.specs.Prelude.{◌≡◌, ◌≤◌, ◌<◌, ◌++◌, ℕ, length, take, IsTrue, OnOk, OnErr};
 ghost use Rattle.mc_outside.specs.LinkView.{after_send, Failed};
-ghost use Rattle.mc_records.specs.Replies.{reply_head};
+ghost use Rattle.mc_requests.specs.Replies.{reply_head};
 ghost use Rattle.millicent_http.specs.ReplyHeads.{IsReplyHead, reply_of};
 
 use mc_base::NoMemory;

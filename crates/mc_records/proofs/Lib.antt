@@ -1,4 +1,3 @@
-pub mod DateLemmas
 pub mod PartLaws
 pub mod KindLaws
 pub mod EntryLaws
@@ -9,5 +8,3 @@ pub mod ReadLaws
 pub mod PayloadSizes
 pub mod ChainLaws
 pub mod SizeLaws
-pub mod ErrandLaws
-pub mod TargetLaws

@@ -1,9 +1,3 @@
-pub mod Refusals
-pub mod RefusalArgs
-pub mod Limits
-pub mod Requests
-pub mod Dates
-pub mod Replies
 pub mod Entry
 pub mod Following
 pub mod Chains
@@ -16,5 +10,3 @@ pub mod TermsRanges
 pub mod TermsViews
 pub mod Views
 pub mod Cells
-pub mod Errands
-pub mod ErrandViews

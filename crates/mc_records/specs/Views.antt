@@ -10,7 +10,7 @@ use Rattle.mc_records.specs.declared.record.RecordFault.{RecordFault}
 use Rattle.mc_records.specs.Entry.{Deed, goods_deed, sale, credit, House, Held, Entry, Site, AddTerms, Goods, Accept, Mint, Account, Deposit, Withdraw, Draw, Licence, Stock, Got, Pend, Done, Refused, Upgrade, Switch, Note}
 use Rattle.mc_records.specs.PieceViews.{pieces_of}
 use Rattle.mc_records.specs.TermsViews.{issuing_of}
-use Rattle.mc_records.specs.Requests.{seen}
+use Rattle.mc_requests.specs.Requests.{seen}
 
 abbrev pub deed_of : RecordDeed → Deed
 deed_of deeds.Goods = goods_deed

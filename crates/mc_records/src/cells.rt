@@ -3,7 +3,7 @@
 ghost use Rattle.std.specs.Prelude.{◌≡◌, ◌<◌, [], ◌∷◌, ◌++◌, option_map};
 ghost use Rattle.mc_fields.specs.Field.{one, four, eight, number, flag};
 ghost use Rattle.mc_records.specs.Entry.{fields, secrets_fields, sign_fields, change_fields, deed_fields, text_fields, got_fields};
-ghost use Rattle.mc_records.specs.Requests.{seen};
+ghost use Rattle.mc_requests.specs.Requests.{seen};
 ghost use Rattle.mc_records.specs.TermsViews.{issuing_of};
 ghost use Rattle.mc_records.specs.Views.{entry, deed_of, held_of};
 ghost use Rattle.mc_records.specs.Cells.{group_fields, groups_fields, kind_of};

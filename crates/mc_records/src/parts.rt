@@ -5,7 +5,7 @@ ghost use Rattle.scrip_form.specs.Texts.{is_name, is_target};
 ghost use Rattle.scrip_form.specs.Reading.{is_scrip};
 ghost use Rattle.mc_fields.specs.Form.{run, repeated, plain, done, plain_at, str_at};
 ghost use Rattle.mc_fields.specs.Gives.{Gives};
-ghost use Rattle.mc_records.specs.Requests.{seen};
+ghost use Rattle.mc_requests.specs.Requests.{seen};
 ghost use Rattle.mc_records.specs.Forms.{secrets_form, terms_form, house_with, house_form, sign_form, change_form, deed_form, held_form, text_form, got_form};
 ghost use Rattle.mc_records.specs.TermsRanges.{AreSome};
 ghost use Rattle.mc_records.specs.TermsViews.{issuing_of};

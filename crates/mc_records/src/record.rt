@@ -33,9 +33,9 @@ pub struct SiteTerms<'a> {
     pub terms: RecordTerms<'a>,
 }
 
-/// An entry of a history, of which nothing is ever changed. Its texts are borrowed, without their
-/// length. Names, targets and scrip texts are those of `scrip_form`; amounts and values are 1 to 2^40
-/// units; keys, secrets and signatures are 16 bytes. A value outside its range has no payload.
+/// An entry of a history, of which nothing is ever changed. Its texts, without their length, and its
+/// secrets are borrowed. Names, targets and scrip texts are those of `scrip_form`; amounts and values are
+/// 1 to 2^40 units; keys, secrets and signatures are 16 bytes. A value outside its range has no payload.
 #[derive(Clone, Copy, Drop)]
 pub enum Record<'a> {
     /// The first entry: whose history it is. The kind is 0 for a vendor, 1 for a broker, 2 for a

@@ -9,7 +9,7 @@ ghost use Rattle.mc_records.specs.Cells.{cell_bytes, group_bytes};
 
 use crate::cells::{Cell, Group, table};
 use crate::record::Record;
-use crate::refusal::Refusal;
+use mc_requests::Refusal;
 
 /// The bytes of a journal of no entries: the header and the first gate.
 pub const EMPTY_JOURNAL: u64 = 9;

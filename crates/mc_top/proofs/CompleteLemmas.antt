@@ -37,7 +37,7 @@ use Rattle.wallet_commands.specs.Paying.{Pays, Renews, Retries}
 use Rattle.wallet_commands.specs.Chaining.{Chains}
 use Rattle.wallet_commands.proofs.EndLemmas as wallet_ends
 use Rattle.audit_cmd.specs.Reports.{AreCalm, report_lines}
-use Rattle.mc_records.specs.declared.limits.TheConstants.Limits.{FULL}
+use Rattle.mc_requests.specs.declared.limits.TheConstants.Limits.{FULL}
 use Rattle.audit_search.specs.Audit.{Audited}
 use Rattle.relay_core.specs.Text.{tree_text}
 use Rattle.audit_cmd.specs.Audit.{TreeAudited}

@@ -3,9 +3,9 @@ use Rattle.std.proofs.Common.{◌≡◌, ◌⊎◌, ◌∙◌, inl, inr, ℕ, ma
 use Rattle.std.specs.Prelude.{◌==◌, if◌then◌else◌, unwrap_or, option_map}
 use Rattle.mc_outside.specs.DiskView.{DiskView}
 use Rattle.mc_outside.specs.LinkView.{LinkView}
-use Rattle.mc_records.specs.declared.limits.TheConstants.Limits.{FULL}
-use Rattle.mc_records.specs.declared.refusal.Refusal.{Refusal}
-use Rattle.mc_records.specs.declared.refusal.Refusal.TheVariants as refusals
+use Rattle.mc_requests.specs.declared.limits.TheConstants.Limits.{FULL}
+use Rattle.mc_requests.specs.declared.refusal.Refusal.{Refusal}
+use Rattle.mc_requests.specs.declared.refusal.Refusal.TheVariants as refusals
 use Rattle.mc_records.specs.Entry.{Entry}
 use Rattle.ledger_model.specs.Histories.{History, time}
 use Rattle.ledger_model.specs.Lines as lines

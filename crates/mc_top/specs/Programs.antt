@@ -7,7 +7,7 @@ use Rattle.house_state.specs.declared.offer.SiteKind.TheVariants.{Vendor, Broker
 use Rattle.house_state.specs.Views.{kind_number}
 use Rattle.house_state.specs.Learning.{Test, AllPass, untested}
 use Rattle.millicent_http.specs.Courses.{NoLink}
-use Rattle.mc_records.specs.declared.refusal.Refusal.{Refusal}
+use Rattle.mc_requests.specs.declared.refusal.Refusal.{Refusal}
 use Rattle.mc_words.specs.declared.command.Command.{Command}
 use Rattle.mc_words.specs.declared.command.Command.TheVariants as commands
 use Rattle.command_status.specs.declared.status.Status.{Status}
@@ -30,7 +30,7 @@ use Rattle.wallet_commands.specs.Founding.{Inits}
 use Rattle.wallet_core.specs.OnDisk.{HasWallet}
 use Rattle.std.specs.List.{AllByRecursion}
 use Rattle.audit_search.specs.declared.fault.BooksFault.TheVariants as founds
-use Rattle.mc_records.specs.declared.limits.TheConstants.Limits.{FULL}
+use Rattle.mc_requests.specs.declared.limits.TheConstants.Limits.{FULL}
 use Rattle.ledger_model.specs.Histories.{History}
 use Rattle.audit_search.specs.declared.fault.BooksFault.{BooksFault}
 use Rattle.audit_search.specs.Audit.{Audited}

@@ -1,6 +1,6 @@
 -- Delivering a link, item by item.
 use Rattle.std.proofs.Common.{◌≡◌, ◌⊎◌, inl, inr, ℕ, ◌+◌, ◌≤◌, ◌<◌, true, false, List, [], ◌∷◌, ◌++◌, length, refl, sym, ap, ◌∙◌, arith, length-append, append_assoc, append-nil}
-use Rattle.mc_records.specs.declared.limits.Limits.{Limits}
+use Rattle.mc_requests.specs.declared.limits.Limits.{Limits}
 use Rattle.millicent_http.specs.Items.{Item, closes, NextItem, EndsNoItem}
 use Rattle.millicent_http.specs.Reads.{HaveRead, NoneCloses}
 use Rattle.millicent_http.proofs.ReadLemmas.{read_item, read_all, read_closed}

@@ -1,8 +1,8 @@
 -- Setups, events, games and what is left of them, as the definitions of schedules have them.
 use Rattle.std.specs.Prelude.{◌≡◌, ◌≤◌, ◌^◌, List, [], map}
 use Rattle.std.specs.List.{AllByRecursion}
-use Rattle.mc_records.specs.declared.limits.Limits.{Limits}
-use Rattle.mc_records.specs.Limits.{AreInRange}
+use Rattle.mc_requests.specs.declared.limits.Limits.{Limits}
+use Rattle.mc_requests.specs.Limits.{AreInRange}
 use Rattle.mc_records.specs.Entry.{Entry, Fits}
 use Rattle.mc_records.specs.Sizes.{size}
 use Rattle.ledger_model.specs.Histories.{History}

@@ -1,6 +1,6 @@
 -- What a house of a world says to the items of a link.
 use Rattle.std.specs.Prelude.{◌≡◌, ℕ, List, ◌++◌}
-use Rattle.mc_records.specs.declared.limits.Limits.{Limits}
+use Rattle.mc_requests.specs.declared.limits.Limits.{Limits}
 use Rattle.millicent_http.specs.Items.{Item, Heads}
 use Rattle.millicent_http.specs.Steps.{sent_of, state_after}
 use Rattle.house_core.specs.Session.{State}

@@ -4,7 +4,7 @@ ghost use Rattle.std.specs.Prelude.{◌≡◌, ◌↔◌, ◌≤◌, [], max, So
 ghost use Rattle.mc_records.specs.Chains.{TellsChain};
 ghost use Rattle.mc_records.specs.Entry as entries;
 ghost use Rattle.mc_records.specs.Entry.{Entry, Fits, moment_of};
-ghost use Rattle.mc_records.specs.Limits.{AreInRange};
+ghost use Rattle.mc_requests.specs.Limits.{AreInRange};
 ghost use Rattle.mc_records.specs.Views.{entry};
 ghost use Rattle.ledger_model.specs.Histories.{History as Entries, time};
 ghost use Rattle.ledger_model.specs.Houses.{site_kind};
@@ -18,7 +18,8 @@ use crate::shop::Shop;
 use broker_core::Desk;
 use house_state::Trade;
 use mc_base::{Moment, NoMemory};
-use mc_records::{Limits, Record, read_record};
+use mc_records::{Record, read_record};
+use mc_requests::Limits;
 use slow_ledger::{Prefix, slow_chain, slow_is_broker, slow_time};
 use std::alloc::Global;
 use vendor_core::Shelf;

@@ -1,7 +1,7 @@
 //! What a schedule is made of.
 
 use ledger_model::History;
-use mc_records::Limits;
+use mc_requests::Limits;
 use scrip_form::Name;
 use wallet_core::Ask;
 

@@ -1,8 +1,8 @@
 //! A world that plays, and its steps.
 
 ghost use Rattle.std.specs.Prelude.{◌≡◌, OnOk};
-ghost use Rattle.mc_records.specs.declared.limits.Limits.{Limits as Bounds};
-ghost use Rattle.mc_records.specs.Limits.{AreInRange};
+ghost use Rattle.mc_requests.specs.declared.limits.Limits.{Limits as Bounds};
+ghost use Rattle.mc_requests.specs.Limits.{AreInRange};
 ghost use Rattle.world_model.specs.Worlds as worlds;
 ghost use Rattle.world_model.specs.Worlds.{Happens};
 ghost use Rattle.world_model.specs.Conservation.{AreLawful};
@@ -15,7 +15,7 @@ use crate::house::{House, deliver};
 use crate::wallet::{ask, send_again, take_reply};
 use ledger_model::History;
 use mc_base::{Moment, NoMemory};
-use mc_records::Limits;
+use mc_requests::Limits;
 use scrip_form::Name;
 use std::alloc::Global;
 use std::marker::Model;

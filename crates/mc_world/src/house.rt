@@ -2,7 +2,7 @@
 //! history, entry by entry.
 
 ghost use Rattle.std.specs.Prelude.{◌≡◌, ◌<◌, ◌-◌, ◌^◌, min, [], Some, IfOk};
-ghost use Rattle.mc_records.specs.Limits.{AreInRange};
+ghost use Rattle.mc_requests.specs.Limits.{AreInRange};
 ghost use Rattle.ledger_model.specs.Histories.{time};
 ghost use Rattle.ledger_model.specs.Houses.{site_kind};
 ghost use Rattle.world_model.specs.Worlds.{opens};
@@ -14,7 +14,7 @@ use broker_core::Desk;
 use house_state::Trade;
 use ledger_model::History;
 use mc_base::{Moment, NoMemory};
-use mc_records::Limits;
+use mc_requests::Limits;
 use slow_ledger::{Prefix, slow_is_broker, slow_time};
 use std::alloc::Global;
 use std::marker::Model;

@@ -1,15 +1,15 @@
 //! A house of a world: a bench, and its history beside it.
 
 ghost use Rattle.std.specs.Prelude.{◌≡◌, ◌≤◌, [], Some, IfOk, IfErr, OnOk, Err, false};
-ghost use Rattle.mc_records.specs.Limits.{AreInRange};
+ghost use Rattle.mc_requests.specs.Limits.{AreInRange};
 ghost use Rattle.mc_records.specs.Sizes.{size};
 ghost use Rattle.ledger_model.specs.Lawful.{IsLawful};
 ghost use Rattle.ledger_model.specs.Houses.{site_kind};
 ghost use Rattle.world_model.specs.Worlds.{opens};
-ghost use Rattle.mc_records.specs.declared.refusal.Refusal.TheVariants.{NoMemory as Starved};
+ghost use Rattle.mc_requests.specs.declared.refusal.Refusal.TheVariants.{NoMemory as Starved};
 ghost use Rattle.ledger_model.specs.Answer.{Answer};
 ghost use Rattle.slow_ledger.specs.Shown.{Shows};
-ghost use Rattle.mc_records.specs.Requests.{asked_of};
+ghost use Rattle.mc_requests.specs.Requests.{asked_of};
 ghost use Rattle.millicent_http.specs.Takes.{item_of};
 ghost use Rattle.house_state.specs.Replying.{IsOfSite};
 ghost use Rattle.mc_records.specs.Chains.{TellsChain};
@@ -28,7 +28,8 @@ use house_state::{Presented, Trade};
 use kept_replies::KeptNumber;
 use ledger_model::History;
 use mc_base::{Moment, NoMemory};
-use mc_records::{Limits, Record, Refusal, Request, read_record};
+use mc_records::{Record, read_record};
+use mc_requests::{Limits, Refusal, Request};
 use millicent_http::{ItemRef, MAX_ITEMS, next_item};
 use slow_ledger::{ModelAnswer, slow_answer};
 use std::alloc::Global;

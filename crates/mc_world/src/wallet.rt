@@ -17,7 +17,8 @@ ghost use Rattle.mc_world.specs.Wallets.{IsOpened, AsksFor, SendsAgainFor, Settl
 
 use ledger_model::History;
 use mc_base::{Amount, Moment, NoMemory};
-use mc_records::{Limits, PieceList, Record, SiteTerms, grown_size};
+use mc_records::{PieceList, Record, SiteTerms, grown_size};
+use mc_requests::Limits;
 use reply_reader::{ReplyRead, read_reply};
 use scrip_form::Name;
 use std::alloc::Global;

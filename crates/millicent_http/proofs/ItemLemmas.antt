@@ -5,7 +5,7 @@ use Rattle.std.proofs.lemmas.Bool.{cases_lt}
 use Rattle.std.proofs.lemmas.List.{append-nil, take-append-le, drop-append-le, drop_all, take_all, length-take}
 use Rattle.std.proofs.Math.Seq.{take-append-add}
 use Rattle.httparse.proofs.GrammarLemmas.{request_unique}
-use Rattle.mc_records.specs.declared.refusal.Refusal.TheVariants.{HeadTooLarge}
+use Rattle.mc_requests.specs.declared.refusal.Refusal.TheVariants.{HeadTooLarge}
 use Rattle.millicent_http.specs.HeadEnds.{line_ends, ends_at, HasNoEnd, IsFirstEnd}
 use Rattle.millicent_http.specs.Items.{Item, refused, closes, ReadsItem, judged_head, max_head, IsWhole, IsTooLarge, NextItem, EndsNoItem, AreItems}
 use Rattle.millicent_http.proofs.EndLemmas.{first_end_stays, first_end_unique, text_stays}

@@ -3,11 +3,11 @@ use Rattle.std.proofs.Common.{◌≡◌, ℕ, Bool, true, false, List, map, refl
 use Rattle.std.specs.Prelude.{codes, ◌==◌, ◌||◌, ◌&&◌, if◌then◌else◌, not}
 use Rattle.std.specs.List.{list_any}
 use Rattle.std.specs.Str.{bytes_eq}
-use Rattle.mc_records.specs.declared.refusal.Refusal.TheVariants.{NoHost, BodyRefused, BadTarget, BadMethod, RepeatedField}
+use Rattle.mc_requests.specs.declared.refusal.Refusal.TheVariants.{NoHost, BodyRefused, BadTarget, BadMethod, RepeatedField}
 use Rattle.millicent_http.specs.Fields.{values, host_is_fit, says_body, says_close, at_most_one, first_of}
 use Rattle.scrip_form.specs.Texts.{is_target}
 use Rattle.httparse.specs.Spans.{name_and_value}
-use Rattle.mc_records.specs.Requests.{Asked}
+use Rattle.mc_requests.specs.Requests.{Asked}
 use Rattle.scrip_form.specs.Texts.{IsTarget}
 use Rattle.millicent_http.specs.Items.{request, refused, judged, NextItem}
 use Rattle.scrip_form.proofs.TextTests.{target_decides}

@@ -1,9 +1,9 @@
 -- The statuses of refusals.
 use Rattle.std.proofs.Common.{◌≢◌, refl, arith}
 use Rattle.std.specs.Prelude.{IsTrue}
-use Rattle.mc_records.specs.declared.refusal.Refusal.{Refusal}
-use Rattle.mc_records.specs.declared.refusal.Refusal.TheVariants.{BadHead, HeadTooLarge, NoHost, BodyRefused, BadTarget, BadMethod, RepeatedField, NoScrip, BadScrip, WrongVendor, UnknownIssuer, ExpiryMismatch, BadCertificate, Expired, Spent, NeedSignature, BadSignature, NoSuchGoods, TooLittle, SeriesFull, JournalFull, WrongVersion, NoAccount, StaleOrder, PoorAccount, NoVendor, NoStock, AccountFull, NotPlain, OverBudget, UpstreamFault, NoMemory, DiskFault}
-use Rattle.mc_records.specs.Refusals.{status_of}
+use Rattle.mc_requests.specs.declared.refusal.Refusal.{Refusal}
+use Rattle.mc_requests.specs.declared.refusal.Refusal.TheVariants.{BadHead, HeadTooLarge, NoHost, BodyRefused, BadTarget, BadMethod, RepeatedField, NoScrip, BadScrip, WrongVendor, UnknownIssuer, ExpiryMismatch, BadCertificate, Expired, Spent, NeedSignature, BadSignature, NoSuchGoods, TooLittle, SeriesFull, JournalFull, WrongVersion, NoAccount, StaleOrder, PoorAccount, NoVendor, NoStock, AccountFull, NotPlain, OverBudget, UpstreamFault, NoMemory, DiskFault}
+use Rattle.mc_requests.specs.Refusals.{status_of}
 use Rattle.millicent_http.specs.ReplyHeads.{is_status}
 
 pub has_a_status : (f : Refusal) → status_of f ≢ 0 → IsTrue (is_status (status_of f)) × (status_of f ≢ 200)

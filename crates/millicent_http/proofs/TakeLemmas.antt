@@ -1,7 +1,7 @@
 -- An item that is taken from the buffer.
 use Rattle.std.proofs.Common.{◌≡◌, ◌⊎◌, ◌↔◌, inl, inr, ⊎_elim, Bool, true, ℕ, ◌+◌, ◌-◌, ◌≤◌, List, length, drop, ◌++◌, refl, sym, ◌∙◌, ap, subst, arith}
 use Rattle.std.specs.Prelude.{slice_range}
-use Rattle.mc_records.specs.declared.refusal.Refusal.TheVariants.{HeadTooLarge}
+use Rattle.mc_requests.specs.declared.refusal.Refusal.TheVariants.{HeadTooLarge}
 use Rattle.millicent_http.specs.declared.reader.TheConstants.{MAX_ITEMS}
 use Rattle.millicent_http.specs.HeadEnds.{line_ends, HasNoEnd, IsFirstEnd}
 use Rattle.millicent_http.specs.Items.{Item, refused, max_head, ReadsItem, NextItem}

@@ -4,7 +4,7 @@ use Rattle.std.specs.Prelude.{slice_range}
 use Rattle.std.proofs.Math.Nat.{min_comm}
 use Rattle.std.proofs.lemmas.Bool.{cases_lt, true≢false}
 use Rattle.std.proofs.lemmas.List.{take_min, length-take, take_all}
-use Rattle.mc_records.specs.declared.refusal.Refusal.TheVariants.{HeadTooLarge}
+use Rattle.mc_requests.specs.declared.refusal.Refusal.TheVariants.{HeadTooLarge}
 use Rattle.millicent_http.specs.HeadEnds.{line_ends, HasNoEnd, IsFirstEnd}
 use Rattle.millicent_http.specs.Items.{Item, refused, max_head, ReadsItem, NextItem, EndsNoItem}
 use Rattle.millicent_http.proofs.EndLemmas.{no_end_front}

@@ -1,6 +1,6 @@
 -- The refusals of heads, among all refusals.
-use Rattle.mc_records.specs.declared.refusal.Refusal.{Refusal}
-use Rattle.mc_records.specs.declared.refusal.Refusal.TheVariants as refusals
+use Rattle.mc_requests.specs.declared.refusal.Refusal.{Refusal}
+use Rattle.mc_requests.specs.declared.refusal.Refusal.TheVariants as refusals
 use Rattle.millicent_http.specs.declared.item.HeadRefusal.{HeadRefusal}
 use Rattle.millicent_http.specs.declared.item.HeadRefusal.TheVariants.{BadHead, HeadTooLarge, NoHost, BodyRefused, BadTarget, BadMethod, RepeatedField}
 

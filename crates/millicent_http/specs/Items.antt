@@ -4,9 +4,9 @@ use Rattle.std.specs.List.{list_any}
 use Rattle.std.specs.Str.{bytes_eq}
 use Rattle.httparse.specs.Grammar.{RequestHead, ReadsRequest}
 use Rattle.httparse.specs.Spans.{name_and_value}
-use Rattle.mc_records.specs.Requests.{Asked}
-use Rattle.mc_records.specs.declared.refusal.Refusal.{Refusal}
-use Rattle.mc_records.specs.declared.refusal.Refusal.TheVariants.{BadHead, HeadTooLarge, NoHost, BodyRefused, BadTarget, BadMethod, RepeatedField}
+use Rattle.mc_requests.specs.Requests.{Asked}
+use Rattle.mc_requests.specs.declared.refusal.Refusal.{Refusal}
+use Rattle.mc_requests.specs.declared.refusal.Refusal.TheVariants.{BadHead, HeadTooLarge, NoHost, BodyRefused, BadTarget, BadMethod, RepeatedField}
 use Rattle.millicent_http.specs.HeadEnds.{line_ends, HasNoEnd, IsFirstEnd}
 use Rattle.millicent_http.specs.Fields.{values, host_is_fit, says_body, says_close, at_most_one, first_of}
 use Rattle.scrip_form.specs.Texts.{is_target}

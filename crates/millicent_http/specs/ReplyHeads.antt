@@ -2,9 +2,9 @@
 use Rattle.std.specs.Prelude.{◌≡◌, ◌≢◌, ℕ, ◌<◌, ◌≤◌, ◌==◌, Bool, List, [], ◌∷◌, length, Option, Some, None, IsNone, IsSome, IfSome, IsSomeAnd, IsTrue}
 use Rattle.std.specs.List.{list_any}
 use Rattle.std.specs.Borrow.{Bor}
-use Rattle.mc_records.specs.declared.refusal.Refusal.{Refusal}
-use Rattle.mc_records.specs.Requests.{seen}
-use Rattle.mc_records.specs.Replies.{Reply}
+use Rattle.mc_requests.specs.declared.refusal.Refusal.{Refusal}
+use Rattle.mc_requests.specs.Requests.{seen}
+use Rattle.mc_requests.specs.Replies.{Reply}
 use Rattle.millicent_http.specs.declared.reply.ReplyHead.{ReplyHead}
 
 -- a refusal that may be there

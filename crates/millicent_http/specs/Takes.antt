@@ -1,7 +1,7 @@
 -- What a reader of heads gives, as items of the link.
 use Rattle.std.specs.Prelude.{◌≡◌, ◌↔◌, ◌⊎◌, ℕ, ◌+◌, ◌≤◌, length, min, Bool, true, List, [], ◌++◌}
 use Rattle.mc_outside.specs.LinkView.{LinkView, after_recv, after_eof, Failed}
-use Rattle.mc_records.specs.Requests.{asked_of}
+use Rattle.mc_requests.specs.Requests.{asked_of}
 use Rattle.millicent_http.specs.declared.item.ItemRef.{ItemRef}
 use Rattle.millicent_http.specs.declared.item.ItemRef.TheVariants.{Request as RequestItem, Refused as RefusedItem}
 use Rattle.millicent_http.specs.declared.item.HeadOut.{HeadOut}

@@ -2,7 +2,7 @@ ghost use Rattle.std.specs.Prelude.{◌≡◌, ◌↔◌, ◌⊎◌, true};
 ghost use Rattle.millicent_http.specs.Items.{closes};
 ghost use Rattle.millicent_http.specs.Takes.{item_of};
 
-use mc_records::{Refusal, Request};
+use mc_requests::{Refusal, Request};
 
 /// Why a head is refused.
 #[derive(Clone, Copy, Debug, PartialEq, Eq)]

@@ -1,7 +1,7 @@
 ghost use Rattle.std.specs.Prelude.{◌≡◌, ◌≢◌, ℕ, Bool, List, IsTrue};
-ghost use Rattle.mc_records.specs.declared.refusal.Refusal.{Refusal};
-ghost use Rattle.mc_records.specs.Refusals.{status_of};
-ghost use Rattle.mc_records.specs.Requests.{Asked};
+ghost use Rattle.mc_requests.specs.declared.refusal.Refusal.{Refusal};
+ghost use Rattle.mc_requests.specs.Refusals.{status_of};
+ghost use Rattle.mc_requests.specs.Requests.{Asked};
 ghost use Rattle.scrip_form.specs.Texts.{IsTarget};
 ghost use Rattle.millicent_http.specs.Items.{Item, Heads, NextItem, request};
 ghost use Rattle.millicent_http.specs.ReplyHeads.{is_status};

@@ -1,5 +1,5 @@
 ghost use Rattle.std.specs.Prelude.{◌≡◌, ◌++◌, ◌∷◌, [], List, ℕ, IfSome, IfNone, true, false};
-ghost use Rattle.mc_records.specs.Requests.{seen};
+ghost use Rattle.mc_requests.specs.Requests.{seen};
 ghost use Rattle.millicent_http.specs.Fields.{at_most_one, first_of};
 ghost use Rattle.millicent_http.specs.Occurs.{Occurred};
 

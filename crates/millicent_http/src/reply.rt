@@ -1,10 +1,10 @@
 ghost use Rattle.std.specs.Prelude.{◌≡◌, ◌+◌, ◌≤◌, ◌++◌, length, take};
-ghost use Rattle.mc_records.specs.Requests.{seen};
-ghost use Rattle.mc_records.specs.Replies.{field, or_dash};
+ghost use Rattle.mc_requests.specs.Requests.{seen};
+ghost use Rattle.mc_requests.specs.Replies.{field, or_dash};
 
 use mc_base::Moment;
 use mc_fields::put;
-use mc_records::Refusal;
+use mc_requests::Refusal;
 
 /// The values of a reply's head. A 200 has a kind of contents and no refusal; any other status is
 /// that of a refusal, which has no kind. No price, no change and no signature is written as `-`.

@@ -1,10 +1,10 @@
 ghost use Rattle.std.specs.Prelude.{◌≡◌, ◌+◌, ◌≤◌, ◌<◌, ◌++◌, length, take, codes, decimal, IfSome, option_map};
 ghost use Rattle.hex.specs.Hex.{encode_lower};
-ghost use Rattle.mc_records.specs.Dates.{date_of};
-ghost use Rattle.mc_records.specs.Refusals.{refusal_text};
-ghost use Rattle.mc_records.specs.Requests.{seen};
-ghost use Rattle.mc_records.specs.Replies as replies;
-ghost use Rattle.mc_records.specs.Replies.{field, field_if};
+ghost use Rattle.mc_requests.specs.Dates.{date_of};
+ghost use Rattle.mc_requests.specs.Refusals.{refusal_text};
+ghost use Rattle.mc_requests.specs.Requests.{seen};
+ghost use Rattle.mc_requests.specs.Replies as replies;
+ghost use Rattle.mc_requests.specs.Replies.{field, field_if};
 ghost use Rattle.millicent_http.specs.ReplyHeads.{IsReplyHead, reply_of, refusal_of};
 
 use crate::reply::{ReplyHead, or_dash, put_field};
@@ -12,7 +12,7 @@ use httpdate::HttpDate;
 use itoa::Buffer;
 use mc_base::Moment;
 use mc_fields::{put, put_number};
-use mc_records::{Refusal, date_of_its_second, put_refusal_text};
+use mc_requests::{Refusal, date_of_its_second, put_refusal_text};
 
 /// Writes the head of a reply at the front of the buffer, from its status line to the empty line
 /// that ends it, and answers how many bytes it has.

@@ -1,12 +1,12 @@
 ghost use Rattle.std.specs.Prelude.{◌≡◌, ◌+◌, ◌≤◌, ◌++◌, length, take, decimal, IfSome, option_map};
-ghost use Rattle.mc_records.specs.Refusals.{refusal_text};
-ghost use Rattle.mc_records.specs.Requests.{seen};
-ghost use Rattle.mc_records.specs.Replies as replies;
+ghost use Rattle.mc_requests.specs.Refusals.{refusal_text};
+ghost use Rattle.mc_requests.specs.Requests.{seen};
+ghost use Rattle.mc_requests.specs.Replies as replies;
 ghost use Rattle.millicent_http.specs.ReplyHeads.{IsReplyHead, reply_of, refusal_of};
 
 use crate::reply::{ReplyHead, or_dash};
 use mc_fields::{put, put_number};
-use mc_records::{Refusal, put_refusal_text};
+use mc_requests::{Refusal, put_refusal_text};
 
 /// Writes the reply text, which a reply's signature is made of, at the front of the buffer, up to
 /// and with its line feed, and answers how many bytes that are. The contents follow it.

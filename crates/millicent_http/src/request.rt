@@ -4,7 +4,7 @@ ghost use Rattle.std.specs.List.{list_any};
 ghost use Rattle.std.specs.Str.{bytes_eq};
 ghost use Rattle.millicent_http.specs.Fields.{says_close, at_most_one, first_of};
 ghost use Rattle.millicent_http.specs.Occurs.{Occurred};
-ghost use Rattle.mc_records.specs.declared.refusal.Refusal.TheVariants.{RepeatedField};
+ghost use Rattle.mc_requests.specs.declared.refusal.Refusal.TheVariants.{RepeatedField};
 ghost use Rattle.millicent_http.specs.Items.{ReadsItem, judged, request, refused};
 ghost use Rattle.millicent_http.specs.Takes.{item_of};
 
@@ -13,7 +13,7 @@ use crate::item::{HeadRefusal, ItemRef};
 use crate::occurs::Occurs;
 use httparse::Status;
 use httparse::spans::{EMPTY_HEADER_SPAN, HeaderSpan, RequestSpans, parse_request};
-use mc_records::Request;
+use mc_requests::Request;
 
 /// The most fields that a head may have.
 const MAX_FIELDS: usize = 64;

@@ -2,8 +2,8 @@
 use Rattle.std.proofs.Common.{◌≡◌, ℕ, List, [], ◌∷◌, ◌++◌, refl, sym, subst}
 use Rattle.mc_outside.specs.DiskView.{DiskView, IsDisk, Ran}
 use Rattle.mc_outside.proofs.Runs.{ran_none, ran_weaker}
-use Rattle.mc_records.specs.declared.limits.Limits.{Limits}
-use Rattle.mc_records.specs.declared.refusal.Refusal.{Refusal}
+use Rattle.mc_requests.specs.declared.limits.Limits.{Limits}
+use Rattle.mc_requests.specs.declared.refusal.Refusal.{Refusal}
 use Rattle.ledger_model.specs.Histories.{History}
 use Rattle.scrip_journal.specs.Exits.{EncodesNoOutput}
 use Rattle.scrip_journal.specs.Rests.{journal_leaves}

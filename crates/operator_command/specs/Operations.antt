@@ -1,7 +1,7 @@
 -- What the operations of a site's operator mean.
 use Rattle.std.specs.Prelude.{◌≡◌, ℕ, List, [], ◌∷◌, length, Option, None}
-use Rattle.mc_records.specs.declared.limits.Limits.{Limits}
-use Rattle.mc_records.specs.declared.limits.TheConstants.Limits.{MOST_JOURNAL, MOST_SERIES}
+use Rattle.mc_requests.specs.declared.limits.Limits.{Limits}
+use Rattle.mc_requests.specs.declared.limits.TheConstants.Limits.{MOST_JOURNAL, MOST_SERIES}
 use Rattle.mc_records.specs.Chains.{chain}
 use Rattle.ledger_model.specs.Histories.{History}
 use Rattle.ledger_model.specs.Houses.{site_name}

@@ -3,7 +3,7 @@ use Rattle.std.specs.Prelude.{◌≡◌, ℕ, List, [], None, map}
 use Rattle.std.specs.List.Sorted.{IsPermutation, IsSortedBy}
 use Rattle.std.specs.Ordering.{nat_cmp, is_lt}
 use Rattle.std.specs.Cmp.Lexicographic.{slice_cmp}
-use Rattle.mc_records.specs.declared.limits.Limits.{Limits}
+use Rattle.mc_requests.specs.declared.limits.Limits.{Limits}
 use Rattle.ledger_model.specs.Histories.{History}
 use Rattle.ledger_model.specs.Houses.{site_name}
 use Rattle.ledger_model.specs.Accounts.{all_balances}

@@ -8,7 +8,7 @@ use Rattle.mc_fields.specs.Texts.{is_text}
 use Rattle.scrip_form.specs.Issuing.{Issuing}
 use Rattle.scrip_form.specs.Scrip.{scrip_body}
 use Rattle.scrip_form.specs.Reading.{scrip_of, scrip_at, id_at}
-use Rattle.mc_records.specs.Errands.{errand_of}
+use Rattle.mc_requests.specs.Errands.{errand_of}
 use Rattle.mc_records.specs.Entry.{goods_deed, sale, Entry, Site, AddTerms, Goods, Accept, Account, Deposit, Draw, Licence, Stock}
 use Rattle.ledger_model.specs.Histories.{History}
 use Rattle.ledger_model.specs.Pieces.{own_out}

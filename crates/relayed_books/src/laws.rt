@@ -2,7 +2,7 @@
 
 ghost use Rattle.std.specs.Prelude.{◌≡◌, ◌^◌, ◌≤◌, List, None};
 ghost use Rattle.std.specs.List.{list_any};
-ghost use Rattle.mc_records.specs.declared.limits.Limits.{Limits as Bounds};
+ghost use Rattle.mc_requests.specs.declared.limits.Limits.{Limits as Bounds};
 ghost use Rattle.ledger_model.specs.Histories.{History};
 ghost use Rattle.audit_model.specs.Brokers.{AreBooksOf, AreBalanced};
 ghost use Rattle.relayed_books.specs.Seen.{mark_from, is_barred};

@@ -12,10 +12,10 @@ use Rattle.std.proofs.lemmas.List.Elements.{All-nil, All-cons}
 use Rattle.std.proofs.lemmas.Slice.Eq.{bytes_eq-Decides}
 use Rattle.hex.specs.Hex.{encode_lower}
 use Rattle.httparse.specs.Grammar.{IsField, IsResponseHead, is_token, is_token_byte, is_value_byte}
-use Rattle.mc_records.specs.declared.refusal.Refusal.{Refusal}
-use Rattle.mc_records.specs.Dates.{date_of}
-use Rattle.mc_records.specs.Refusals.{refusal_text, kept_of}
-use Rattle.mc_records.specs.Replies.{Reply, reply_head, reason, media_type, or_dash}
+use Rattle.mc_requests.specs.declared.refusal.Refusal.{Refusal}
+use Rattle.mc_requests.specs.Dates.{date_of}
+use Rattle.mc_requests.specs.Refusals.{refusal_text, kept_of}
+use Rattle.mc_requests.specs.Replies.{Reply, reply_head, reason, media_type, or_dash}
 use Rattle.millicent_http.specs.ReplyHeads.{statuses}
 use Rattle.millicent_http.proofs.ItemLemmas.{max_head_is}
 use Rattle.scrip_form.specs.Scrip.{IsScripText}

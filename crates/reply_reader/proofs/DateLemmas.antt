@@ -8,8 +8,8 @@ use Rattle.httparse.specs.Grammar.{is_value_byte}
 use Rattle.httpdate.specs.declared.parts.Parts.{Parts}
 use Rattle.httpdate.specs.Calendar.{days_in_month}
 use Rattle.httpdate.specs.Text.{day_name, month_name, two_digits, four_digits, time_of_day, imf_fixdate}
-use Rattle.mc_records.specs.Dates.{date_of}
-use Rattle.mc_records.proofs.DateLemmas.{date_of_a_second}
+use Rattle.mc_requests.specs.Dates.{date_of}
+use Rattle.mc_requests.proofs.DateLemmas.{date_of_a_second}
 use Rattle.scrip_form.specs.Texts.{is_visible}
 use Rattle.reply_reader.proofs.HeadLines.{starts_solid}
 use Rattle.reply_reader.proofs.QuietLemmas.{and_left, and_right, and_both}

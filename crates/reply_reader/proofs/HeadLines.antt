@@ -3,9 +3,9 @@ use Rattle.std.specs.Prelude.{ℕ, ◌==◌, ◌&&◌, ◌||◌, Bool, true, fal
 use Rattle.std.specs.List.{list_all}
 use Rattle.hex.specs.Hex.{encode_lower}
 use Rattle.httparse.specs.Grammar.{Field, ResponseHead, crlf, is_ows}
-use Rattle.mc_records.specs.Dates.{date_of}
-use Rattle.mc_records.specs.Refusals.{refusal_text}
-use Rattle.mc_records.specs.Replies.{Reply, media_type, or_dash}
+use Rattle.mc_requests.specs.Dates.{date_of}
+use Rattle.mc_requests.specs.Refusals.{refusal_text}
+use Rattle.mc_requests.specs.Replies.{Reply, media_type, or_dash}
 
 -- ---- bytes in which no empty line ends
 

@@ -6,9 +6,9 @@ use Rattle.std.specs.Fmt.{digits}
 use Rattle.std.proofs.lemmas.List.Elements.{All-head, All-tail}
 use Rattle.httparse.specs.Grammar.{is_value_byte}
 use Rattle.mc_fields.specs.Reading.{literal_at, field_at}
-use Rattle.mc_records.specs.declared.refusal.Refusal.{Refusal}
-use Rattle.mc_records.specs.declared.refusal.Refusal.TheVariants.{BadHead}
-use Rattle.mc_records.specs.Refusals.{number_of, name_of, kept_of, spaced, refusal_text}
+use Rattle.mc_requests.specs.declared.refusal.Refusal.{Refusal}
+use Rattle.mc_requests.specs.declared.refusal.Refusal.TheVariants.{BadHead}
+use Rattle.mc_requests.specs.Refusals.{number_of, name_of, kept_of, spaced, refusal_text}
 use Rattle.scrip_form.specs.Texts.{is_visible}
 use Rattle.reply_reader.specs.Said.{is_refusal_text}
 use Rattle.reply_reader.specs.Written.{IsWord}

@@ -4,9 +4,9 @@ use Rattle.std.specs.Prelude.{◌==◌, codes, decimal, option_map, option_to_li
 use Rattle.std.specs.List.{list_all}
 use Rattle.hex.specs.Hex.{encode_lower}
 use Rattle.httparse.specs.Grammar.{IsResponseHead, status_code}
-use Rattle.mc_records.specs.Dates.{date_of}
-use Rattle.mc_records.specs.Refusals.{refusal_text}
-use Rattle.mc_records.specs.Replies.{Reply, reply_head, reason, media_type, or_dash}
+use Rattle.mc_requests.specs.Dates.{date_of}
+use Rattle.mc_requests.specs.Refusals.{refusal_text}
+use Rattle.mc_requests.specs.Replies.{Reply, reply_head, reason, media_type, or_dash}
 use Rattle.millicent_http.specs.Fields.{values, same_name}
 use Rattle.millicent_http.specs.Decimals.{decimal_of}
 use Rattle.reply_reader.specs.Said.{HeadSaid, said_by, refusal_said}

@@ -2,9 +2,9 @@
 use Rattle.std.proofs.Common.{◌≡◌, ℕ, Bool, true, false, List, [], ◌∷◌, ◌++◌, refl, ◌∙◌, ap, append_assoc, Option, Some, None, map}
 use Rattle.std.specs.Prelude.{◌==◌, codes, decimal, option_map, if◌then◌else◌}
 use Rattle.hex.specs.Hex.{encode_lower}
-use Rattle.mc_records.specs.Dates.{date_of}
-use Rattle.mc_records.specs.Refusals.{refusal_text}
-use Rattle.mc_records.specs.Replies.{Reply, reply_head, status_line, reason, media_type, field, field_if, allow_line, or_dash}
+use Rattle.mc_requests.specs.Dates.{date_of}
+use Rattle.mc_requests.specs.Refusals.{refusal_text}
+use Rattle.mc_requests.specs.Replies.{Reply, reply_head, status_line, reason, media_type, field, field_if, allow_line, or_dash}
 use Rattle.reply_reader.proofs.HeadLines.{print_lines, field_line, status_start, reply_lines, with_field, with_allow, last_fields, reply_fields}
 
 -- fields one after the other, and the empty line

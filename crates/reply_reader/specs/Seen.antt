@@ -1,6 +1,6 @@
 -- Replies that were read, without where they lie in memory.
 use Rattle.std.specs.Prelude.{ℕ, List, Result, Ok, Err}
-use Rattle.mc_records.specs.Requests.{seen}
+use Rattle.mc_requests.specs.Requests.{seen}
 use Rattle.reply_reader.specs.declared.reply.ReplyRef.{ReplyRef}
 use Rattle.reply_reader.specs.declared.reply.ReplyRead.{ReplyRead}
 use Rattle.reply_reader.specs.declared.reply.ReplyRead.TheVariants.{Whole, Bad, Short}

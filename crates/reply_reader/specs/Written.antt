@@ -3,8 +3,8 @@ use Rattle.std.specs.Prelude.{◌≡◌, ◌≢◌, ℕ, ◌<◌, ◌≤◌, ◌
 use Rattle.std.specs.List.{AllPass}
 use Rattle.hex.specs.Hex.{encode_lower}
 use Rattle.mc_records.specs.declared.ranges.TheConstants.{MOST_CONTENTS}
-use Rattle.mc_records.specs.Refusals.{kept_of, refusal_text}
-use Rattle.mc_records.specs.Replies.{Reply, reply_head, or_dash}
+use Rattle.mc_requests.specs.Refusals.{kept_of, refusal_text}
+use Rattle.mc_requests.specs.Replies.{Reply, reply_head, or_dash}
 use Rattle.scrip_form.specs.Scrip.{IsScripText}
 use Rattle.scrip_form.specs.Texts.{is_visible}
 use Rattle.millicent_http.specs.Items.{max_head}

@@ -1,5 +1,5 @@
 ghost use Rattle.std.specs.Prelude.{◌≡◌, ◌++◌, ◌^◌, ◌<◌, ℕ, List, length, decimal};
-ghost use Rattle.mc_records.specs.Replies.{Reply, reply_head};
+ghost use Rattle.mc_requests.specs.Replies.{Reply, reply_head};
 ghost use Rattle.millicent_http.specs.Received.{Received};
 ghost use Rattle.reply_reader.specs.Replies.{IsReply, IsBad, Needs, IsShort};
 ghost use Rattle.reply_reader.specs.Written.{IsWord, IsSiteReply, received_back};

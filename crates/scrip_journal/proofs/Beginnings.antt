@@ -3,7 +3,7 @@ use Rattle.std.proofs.Common.{◌≡◌, ℕ, ◌+◌, ◌≤◌, List, [], ◌�
 use Rattle.std.proofs.lemmas.List.{append_cancel_left}
 use Rattle.std.specs.List.{AllByRecursion}
 use Rattle.mc_outside.specs.Bytes.{BeginsWith}
-use Rattle.mc_records.specs.declared.limits.TheConstants.Limits.{MOST_JOURNAL}
+use Rattle.mc_requests.specs.declared.limits.TheConstants.Limits.{MOST_JOURNAL}
 use Rattle.mc_records.specs.Entry.{Entry, Fits, Site}
 use Rattle.mc_records.specs.Sizes.{size, size_from, entry_size}
 use Rattle.scrip_journal.specs.Layout.{header, framed, gated, Encodes, Next, at_end, spoiled, unchained, next_of, entered, Reads}

@@ -8,7 +8,7 @@ use Rattle.mc_outside.specs.Bytes.{BeginsWith}
 use Rattle.mc_outside.specs.DiskView.{DiskView}
 use Rattle.mc_outside.proofs.Runs.{read_then}
 use Rattle.mc_records.specs.declared.sizes.TheConstants.{PAYLOAD_BOUND}
-use Rattle.mc_records.specs.declared.limits.TheConstants.Limits.{MOST_JOURNAL}
+use Rattle.mc_requests.specs.declared.limits.TheConstants.Limits.{MOST_JOURNAL}
 use Rattle.mc_records.specs.Entry.{Entry, Fits, payload}
 use Rattle.mc_records.specs.Chains.{has_switch, is_switch}
 use Rattle.mc_records.specs.Sizes.{tail, tail_by, tail_bytes, tail_size}

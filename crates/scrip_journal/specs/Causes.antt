@@ -8,7 +8,7 @@ use Rattle.mc_records.specs.Entry.{Entry, Site, Fits}
 use Rattle.mc_records.specs.Following.{AllFollowBy}
 use Rattle.mc_records.specs.Sizes.{size}
 use Rattle.scrip_journal.specs.Layout.{body, Encodes, Next, spoiled, unchained, Reads}
-use Rattle.mc_records.specs.declared.limits.TheConstants.Limits.{MOST_JOURNAL}
+use Rattle.mc_requests.specs.declared.limits.TheConstants.Limits.{MOST_JOURNAL}
 use Rattle.scrip_journal.specs.declared.cursor.TheConstants.{FIRST_GATE}
 
 -- ---- kinds of site

@@ -6,7 +6,7 @@ use Rattle.std.specs.List.{AllByRecursion}
 use Rattle.mc_records.specs.Entry.{Entry, Fits, payload}
 use Rattle.mc_records.specs.Sizes.{tail, tail_size, size}
 use Rattle.mc_records.specs.Forms.{entry_of}
-use Rattle.mc_records.specs.declared.limits.TheConstants.Limits.{MOST_JOURNAL}
+use Rattle.mc_requests.specs.declared.limits.TheConstants.Limits.{MOST_JOURNAL}
 use Rattle.mc_records.specs.declared.sizes.TheConstants.{PAYLOAD_BOUND}
 
 -- `MCJRNL1` and LF

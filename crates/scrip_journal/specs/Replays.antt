@@ -16,7 +16,7 @@ use Rattle.scrip_journal.specs.declared.ending.Ending.TheVariants.{Closed, Spoil
 use Rattle.scrip_journal.specs.declared.ending.ReplayFault.{ReplayFault}
 use Rattle.scrip_journal.specs.declared.ending.ReplayFault.TheVariants.{BadRecord, BadChain, Disk}
 use Rattle.scrip_journal.specs.declared.replay.Found.{Found}
-use Rattle.mc_records.specs.declared.limits.TheConstants.Limits.{MOST_JOURNAL}
+use Rattle.mc_requests.specs.declared.limits.TheConstants.Limits.{MOST_JOURNAL}
 use Rattle.scrip_journal.specs.declared.cursor.TheConstants.{FIRST_GATE}
 use Rattle.mc_records.specs.declared.sizes.TheConstants.{PAYLOAD_BOUND}
 

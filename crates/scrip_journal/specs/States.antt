@@ -9,7 +9,7 @@ use Rattle.mc_outside.specs.Bytes.{BeginsWith}
 use Rattle.scrip_journal.specs.Layout.{body, framed, Encodes, Next, at_end, spoiled, unchained, next_of}
 use Rattle.scrip_journal.specs.declared.ending.Ending.{Ending}
 use Rattle.scrip_journal.specs.declared.ending.Ending.TheVariants.{Closed, Spoiled, Unchained, Failed}
-use Rattle.mc_records.specs.declared.limits.TheConstants.Limits.{MOST_JOURNAL}
+use Rattle.mc_requests.specs.declared.limits.TheConstants.Limits.{MOST_JOURNAL}
 
 -- ---- chains that may not be known
 

@@ -3,7 +3,7 @@
 ghost use Rattle.std.specs.Prelude.{◌≡◌, ◌+◌, ◌≤◌, [], ◌∷◌, List, ℕ, IfOk, Some, false};
 ghost use Rattle.mc_outside.specs.DiskView.{Ran, IsSynced};
 ghost use Rattle.mc_records.specs.Entry.{Fits};
-ghost use Rattle.mc_records.specs.Limits.{AreInRange};
+ghost use Rattle.mc_requests.specs.Limits.{AreInRange};
 ghost use Rattle.mc_records.specs.Sizes.{entry_size};
 ghost use Rattle.mc_records.specs.Views.{entry};
 ghost use Rattle.scrip_journal.specs.Layout.{Encodes};
@@ -17,7 +17,8 @@ use crate::found::found_journal;
 use crate::journal::{Journal, StageFault};
 use crate::open::open_journal;
 use mc_outside::{Disk, DiskFault};
-use mc_records::{EMPTY_JOURNAL, Limits, Record};
+use mc_records::{EMPTY_JOURNAL, Record};
+use mc_requests::Limits;
 use std::alloc::Global;
 
 /// Founds a book by its first entry; it may grow to `limits.journal` bytes, for which the entry has room.

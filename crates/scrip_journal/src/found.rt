@@ -3,7 +3,7 @@
 ghost use Rattle.std.specs.Prelude.{◌≡◌, [], List, ℕ, IfOk, IfErr, OnOk, Some, false};
 ghost use Rattle.mc_outside.specs.Bytes.{Rose};
 ghost use Rattle.mc_outside.specs.DiskView.{Ran};
-ghost use Rattle.mc_records.specs.Limits.{AreInRange};
+ghost use Rattle.mc_requests.specs.Limits.{AreInRange};
 ghost use Rattle.mc_records.specs.declared.sizes.TheConstants.{EMPTY_JOURNAL};
 ghost use Rattle.scrip_journal.specs.States.{IsJournal};
 ghost use Rattle.scrip_journal.specs.Opens.{found_disk, MatchOpenFault, NoLonger};
@@ -13,7 +13,7 @@ use crate::fault::OpenFault;
 use crate::journal::Journal;
 use mc_base::NoMemory;
 use mc_outside::Disk;
-use mc_records::Limits;
+use mc_requests::Limits;
 use std::alloc::Global;
 
 /// The header, and the closed gate of a journal without entries.

@@ -30,7 +30,7 @@ impl<D> Model for Journal<D> {
     ghost use Rattle.std.specs.Prelude.{◌≡◌, ◌+◌, ◌<◌, ◌≤◌, length};
     ghost use Rattle.scrip_journal.specs.States.{AtRest, IsKnown};
     ghost use Rattle.scrip_journal.specs.declared.cursor.TheConstants.{BUFFER};
-    ghost use Rattle.mc_records.specs.declared.limits.TheConstants.Limits.{MOST_JOURNAL};
+    ghost use Rattle.mc_requests.specs.declared.limits.TheConstants.Limits.{MOST_JOURNAL};
 
     ghost Value = { AtRest D };
 

@@ -3,7 +3,7 @@
 ghost use Rattle.std.specs.Prelude.{◌≡◌, [], List, ℕ, IfOk, IfErr, OnOk, Some, None, false};
 ghost use Rattle.mc_outside.specs.Bytes.{Rose};
 ghost use Rattle.mc_outside.specs.DiskView.{OnlyRead, IsSynced};
-ghost use Rattle.mc_records.specs.Limits.{AreInRange};
+ghost use Rattle.mc_requests.specs.Limits.{AreInRange};
 ghost use Rattle.scrip_journal.specs.States.{IsReading};
 ghost use Rattle.scrip_journal.specs.declared.cursor.TheConstants.{FIRST_GATE};
 ghost use Rattle.scrip_journal.specs.Opens.{open_disk, MatchOpenFault, OpensBy};
@@ -13,7 +13,7 @@ use crate::fault::OpenFault;
 use crate::replay::Replay;
 use mc_base::NoMemory;
 use mc_outside::{Disk, DiskFault};
-use mc_records::Limits;
+use mc_requests::Limits;
 use std::alloc::Global;
 
 /// Opens the journal that the disk has, to be read from its first entry on; it may grow to

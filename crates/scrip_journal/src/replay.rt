@@ -19,9 +19,8 @@ use crate::cursor::{BUFFER, Cursor, FIRST_GATE, stands_with};
 use crate::ending::{Ending, ReplayFault};
 use crate::journal::Journal;
 use mc_outside::{Disk, DiskFault};
-use mc_records::{
-    FIRST_CHAIN, Limits, PAYLOAD_BOUND, Record, begins_switch, read_record, tail_len,
-};
+use mc_records::{FIRST_CHAIN, PAYLOAD_BOUND, Record, begins_switch, read_record, tail_len};
+use mc_requests::Limits;
 use std::marker::Model;
 
 /// What a journal begins with.
@@ -69,7 +68,7 @@ impl<D> Model for Replay<D> {
     ghost use Rattle.std.specs.Prelude.{◌≡◌, ◌+◌, ◌-◌, ◌<◌, ◌≤◌, ◌^◌, length, slice_range};
     ghost use Rattle.scrip_journal.specs.States.{Reading, IsKnown};
     ghost use Rattle.scrip_journal.specs.declared.cursor.TheConstants.{BUFFER};
-    ghost use Rattle.mc_records.specs.declared.limits.TheConstants.Limits.{MOST_JOURNAL};
+    ghost use Rattle.mc_requests.specs.declared.limits.TheConstants.Limits.{MOST_JOURNAL};
 
     ghost Value = { Reading D };
 

@@ -32,7 +32,7 @@ impl<D> Model for Staged<D> {
     ghost use Rattle.std.specs.Prelude.{◌≡◌, ◌+◌, ◌<◌, ◌≤◌, length};
     ghost use Rattle.scrip_journal.specs.States.{WithNext, IsKnown};
     ghost use Rattle.scrip_journal.specs.declared.cursor.TheConstants.{BUFFER};
-    ghost use Rattle.mc_records.specs.declared.limits.TheConstants.Limits.{MOST_JOURNAL};
+    ghost use Rattle.mc_requests.specs.declared.limits.TheConstants.Limits.{MOST_JOURNAL};
 
     ghost Value = { WithNext D };
 

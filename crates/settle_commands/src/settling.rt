@@ -16,7 +16,7 @@ use counted_trade::{Counted, pay_statement};
 use house_core::{House, Outcome};
 use mc_base::NoMemory;
 use mc_outside::Disk;
-use mc_records::Refusal;
+use mc_requests::Refusal;
 use operator_command::{OperatorCommand, without_answer};
 use said_lines::{READY, lay_bare, put, ready};
 use scrip_form::Name;

@@ -12,7 +12,7 @@ use Rattle.scrip_form.specs.Scrip.{Scrip}
 use Rattle.scrip_form.specs.Reading.{scrip_of}
 use Rattle.scrip_form.specs.Told.{IsTold}
 use Rattle.scrip_form.proofs.Laws.{scrip_of_tells}
-use Rattle.mc_records.specs.declared.limits.Limits.{Limits}
+use Rattle.mc_requests.specs.declared.limits.Limits.{Limits}
 use Rattle.mc_records.specs.Entry.{Entry, Accept}
 use Rattle.ledger_model.specs.Histories.{History}
 use Rattle.ledger_model.specs.Pieces.{piece_of, accepted, accepted_piece}

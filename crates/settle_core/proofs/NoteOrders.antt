@@ -4,7 +4,7 @@ use Rattle.std.specs.Prelude.{codes, decimal, MatchOption}
 use Rattle.std.proofs.lemmas.List.{length-append}
 use Rattle.std.proofs.lemmas.Fmt.{length-decimal-le_wide}
 use Rattle.mc_fields.specs.Texts.{IsNumber}
-use Rattle.mc_records.specs.declared.limits.Limits.{Limits}
+use Rattle.mc_requests.specs.declared.limits.Limits.{Limits}
 use Rattle.mc_records.specs.Entry.{Note}
 use Rattle.ledger_model.specs.Histories.{History}
 use Rattle.ledger_model.specs.Lawful.{IsLawful}

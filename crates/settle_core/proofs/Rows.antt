@@ -10,8 +10,8 @@ use Rattle.scrip_form.specs.Issuing.{Issuing}
 use Rattle.scrip_form.specs.Scrip.{scrip_body, text_version}
 use Rattle.scrip_form.specs.Reading.{scrip_of, scrip_at, id_at}
 use Rattle.scrip_certs.specs.Digests.{digest, certificate}
-use Rattle.mc_records.specs.declared.refusal.Refusal.TheVariants.{BadStatement, PaidTwice, SeriesOpen, OverSold, NoTerms}
-use Rattle.mc_records.specs.Errands.{errand_of}
+use Rattle.mc_requests.specs.declared.refusal.Refusal.TheVariants.{BadStatement, PaidTwice, SeriesOpen, OverSold, NoTerms}
+use Rattle.mc_requests.specs.Errands.{errand_of}
 use Rattle.mc_records.specs.Entry.{goods_deed, sale, Entry, Site, AddTerms, Goods, Accept, Account, Deposit, Draw, Licence, Stock, Upgrade, Note}
 use Rattle.ledger_model.specs.Histories.{History}
 use Rattle.ledger_model.specs.Lines.{Refuse, Repeat}

@@ -8,8 +8,8 @@ use Rattle.std.proofs.lemmas.List.Elements.{filter-append, filter_map-append}
 use Rattle.scrip_form.specs.Identities.{issuer_of, epoch_of}
 use Rattle.scrip_form.specs.Issuing.{Issuing, series_end}
 use Rattle.scrip_form.specs.Scrip.{Scrip, Certified}
-use Rattle.mc_records.specs.declared.limits.Limits.{Limits}
-use Rattle.mc_records.specs.declared.refusal.Refusal.TheVariants.{WrongVendor, UnknownIssuer, ExpiryMismatch}
+use Rattle.mc_requests.specs.declared.limits.Limits.{Limits}
+use Rattle.mc_requests.specs.declared.refusal.Refusal.TheVariants.{WrongVendor, UnknownIssuer, ExpiryMismatch}
 use Rattle.mc_records.specs.Entry.{Entry, Accept, moment_of}
 use Rattle.ledger_model.specs.Histories.{History, time}
 use Rattle.ledger_model.specs.Houses.{site_name, version, terms_of, all_terms, terms_by, terms_in}

@@ -1,7 +1,7 @@
 -- What there is to do to pay a statement, and to state a series: the lines of which the first that applies decides.
 use Rattle.std.specs.Prelude.{ℕ, not, ◌==◌, nat_lt, if◌then◌else◌, bytes_eq, List, Option, Some, None, option_and_then, Result, Ok, Err}
 use Rattle.scrip_form.specs.Issuing.{Issuing, series_end}
-use Rattle.mc_records.specs.declared.refusal.Refusal.TheVariants.{BadInput, NoVendor, BadStatement, PaidTwice, SeriesOpen, OverSold, NoTerms}
+use Rattle.mc_requests.specs.declared.refusal.Refusal.TheVariants.{BadInput, NoVendor, BadStatement, PaidTwice, SeriesOpen, OverSold, NoTerms}
 use Rattle.ledger_model.specs.Histories.{History}
 use Rattle.ledger_model.specs.Houses.{terms_in}
 use Rattle.ledger_model.specs.Stock.{licence_in, of_issuer}

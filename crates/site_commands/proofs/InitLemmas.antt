@@ -8,7 +8,7 @@ use Rattle.mc_records.specs.Entry.{Entry, Fits}
 use Rattle.mc_records.specs.Sizes.{empty_size, entry_size}
 use Rattle.mc_records.proofs.SizeLaws.{tail_is_short}
 use Rattle.mc_records.proofs.PayloadSizes.{payload_is_short}
-use Rattle.mc_records.specs.declared.limits.Limits.{Limits}
+use Rattle.mc_requests.specs.declared.limits.Limits.{Limits}
 use Rattle.ledger_model.specs.Lawful.{IsLawful}
 use Rattle.scrip_journal.specs.declared.fault.HouseFault.{HouseFault}
 use Rattle.scrip_journal.specs.declared.fault.HouseFault.TheVariants as faults

@@ -1,8 +1,8 @@
 -- What a house serves keeps its history lawful.
 use Rattle.std.proofs.Common.{◌≡◌, inl, inr, ℕ, zero, suc, ◌≤◌, ◌^◌, List, [], ◌∷◌, ◌++◌, refl, sym, subst, arith}
 use Rattle.mc_outside.specs.LinkView.{LinkView, next_taken}
-use Rattle.mc_records.specs.declared.limits.Limits.{Limits}
-use Rattle.mc_records.specs.Requests.{Asked}
+use Rattle.mc_requests.specs.declared.limits.Limits.{Limits}
+use Rattle.mc_requests.specs.Requests.{Asked}
 use Rattle.mc_records.specs.Entry.{Entry}
 use Rattle.ledger_model.specs.Histories.{time}
 use Rattle.ledger_model.specs.Answer as answers

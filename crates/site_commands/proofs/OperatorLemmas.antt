@@ -5,7 +5,7 @@ use Rattle.mc_outside.specs.Bytes.{Rose}
 use Rattle.mc_outside.specs.DiskView.{DiskView, IsDisk, LinkKeeps, OnlyRead, Ran}
 use Rattle.mc_outside.specs.LinkView.{LinkView}
 use Rattle.mc_outside.proofs.Runs.{ran_then, ran_weaker, ran_now}
-use Rattle.mc_records.specs.declared.limits.Limits.{Limits}
+use Rattle.mc_requests.specs.declared.limits.Limits.{Limits}
 use Rattle.ledger_model.specs.Histories.{History, time}
 use Rattle.ledger_model.specs.Houses.{site_kind}
 use Rattle.ledger_model.specs.Lawful.{IsLawful, MayFollow}

@@ -1,6 +1,6 @@
 -- The statuses of what houses answer.
 use Rattle.std.specs.Prelude.{◌≡◌, ℕ, List}
-use Rattle.mc_records.specs.declared.refusal.Refusal.TheVariants as refusals
+use Rattle.mc_requests.specs.declared.refusal.Refusal.TheVariants as refusals
 use Rattle.house_core.specs.declared.outcome.Outcome.{Outcome}
 use Rattle.house_core.specs.declared.outcome.Outcome.TheVariants as outcomes
 use Rattle.house_serving.specs.declared.links.ServeOut.{ServeOut}

@@ -4,7 +4,7 @@ use Rattle.mc_outside.specs.Bytes.{Rose, BeginsWith}
 use Rattle.mc_outside.specs.DiskView.{DiskView, OnlyRead, Ran}
 use Rattle.mc_outside.specs.LinkView.{LinkView}
 use Rattle.mc_records.specs.Entry.{Entry}
-use Rattle.mc_records.specs.declared.refusal.Refusal.TheVariants as refusals
+use Rattle.mc_requests.specs.declared.refusal.Refusal.TheVariants as refusals
 use Rattle.ledger_model.specs.Histories.{History, time}
 use Rattle.ledger_model.specs.Houses.{site_kind}
 use Rattle.ledger_model.specs.Lawful.{IsLawful}

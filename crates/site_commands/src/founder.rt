@@ -18,7 +18,7 @@ pub(crate) fn site<'a>(founder: &'a Founder, kind: SiteKind, moment: Moment) -> 
     ensures site { entry result ≡ site_of (kind_number kind) founder.now moment }
     ensures fits { Fits (site_of (kind_number kind) founder.now moment) }
 {
-    let _pieces: Option<PieceList<'_>> = None;
+    let _parts: Option<PieceList<'_>> = None;
     Record::Site {
         moment,
         kind: kind.number(),

@@ -14,7 +14,8 @@ use command_status::{Status, not_opened};
 use house_opening::found_house;
 use house_state::Trade;
 use mc_outside::{Link, Outside};
-use mc_records::{Limits, PieceList, SiteTerms};
+use mc_records::{PieceList, SiteTerms};
+use mc_requests::Limits;
 use site_words::Founder;
 use std::alloc::Global;
 

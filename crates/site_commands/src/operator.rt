@@ -12,7 +12,7 @@ use house_opening::open_house;
 use house_state::Trade;
 use mc_base::List;
 use mc_outside::Outside;
-use mc_records::Limits;
+use mc_requests::Limits;
 use millicent_http::{InputFault, input_of};
 use operator_command::OperatorCommand;
 use std::alloc::Global;

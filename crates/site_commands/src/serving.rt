@@ -11,7 +11,7 @@ use house_opening::open_house;
 use house_serving::{ServeOut, serve_links};
 use house_state::Trade;
 use mc_outside::Outside;
-use mc_records::Limits;
+use mc_requests::Limits;
 use std::alloc::Global;
 
 /// Opens the book on the outside's disk as that of a site of the trade's kind, and serves so many links. The

@@ -1,6 +1,6 @@
 -- Entries that follow those before them, one after the other.
 use Rattle.std.proofs.Common.{◌≡◌, ℕ, zero, suc, ◌<◌, ◌+◌, Bool, true, false, IsTrue, [], ◌∷◌, ◌++◌, length, take, Option, Some, slice_get, IfSome, MatchOption, sym, subst, append_assoc, append-nil}
-use Rattle.mc_records.specs.declared.limits.Limits.{Limits}
+use Rattle.mc_requests.specs.declared.limits.Limits.{Limits}
 use Rattle.mc_records.specs.Entry.{Entry}
 use Rattle.ledger_model.specs.Histories.{History}
 use Rattle.ledger_model.specs.Lawful.{MayFollow, AllFollow, IsLawful, IsFirstUnlawful}

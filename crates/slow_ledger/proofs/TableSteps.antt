@@ -3,13 +3,13 @@ use Rattle.std.proofs.Common.{◌≡◌, ℕ, nat_lt, List, Option, Some, Result
 use Rattle.std.specs.Global.{Vec}
 use Rattle.scrip_form.specs.Scrip.{Scrip, Certified}
 use Rattle.scrip_form.specs.Reading.{scrip_of}
-use Rattle.mc_records.specs.declared.limits.Limits.{Limits}
-use Rattle.mc_records.specs.Requests.{Asked}
+use Rattle.mc_requests.specs.declared.limits.Limits.{Limits}
+use Rattle.mc_requests.specs.Requests.{Asked}
 use Rattle.mc_records.specs.Entry.{Entry, Accept, Fits, payload}
 use Rattle.slow_ledger.specs.declared.stages.Stopped.{Stopped}
 use Rattle.slow_ledger.specs.declared.stages.Stopped.TheVariants as stops
 use Rattle.ledger_model.specs.Histories.{History}
-use Rattle.mc_records.specs.declared.refusal.Refusal.TheVariants.{NoAccount}
+use Rattle.mc_requests.specs.declared.refusal.Refusal.TheVariants.{NoAccount}
 use Rattle.ledger_model.specs.Orders.{Order}
 use Rattle.ledger_model.specs.Accounts.{key_in}
 use Rattle.ledger_model.specs.Lines.{Stop, ◌>>=◌, given, again_if}

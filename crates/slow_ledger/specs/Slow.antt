@@ -6,12 +6,12 @@ use Rattle.scrip_form.specs.Identities.{series_of}
 use Rattle.scrip_form.specs.Issuing.{Issuing}
 use Rattle.scrip_form.specs.Scrip.{Scrip, Certified, scrip_body}
 use Rattle.scrip_certs.specs.Digests.{certificate, customer_secret}
-use Rattle.mc_records.specs.Errands.{errand_of}
+use Rattle.mc_requests.specs.Errands.{errand_of}
 use Rattle.mc_records.specs.Entry.{Deed, sale, Entry, Site, AddTerms, Goods, Accept, Mint, Draw, Fits, payload}
 use Rattle.mc_records.specs.Views.{deed_of}
-use Rattle.mc_records.specs.declared.limits.Limits.{Limits}
-use Rattle.mc_records.specs.declared.refusal.Refusal.TheVariants.{WrongVersion, BadCertificate, NoAccount}
-use Rattle.mc_records.specs.Requests.{Asked}
+use Rattle.mc_requests.specs.declared.limits.Limits.{Limits}
+use Rattle.mc_requests.specs.declared.refusal.Refusal.TheVariants.{WrongVersion, BadCertificate, NoAccount}
+use Rattle.mc_requests.specs.Requests.{Asked}
 use Rattle.ledger_model.specs.Histories.{History}
 use Rattle.ledger_model.specs.Orders.{Order}
 use Rattle.ledger_model.specs.Accounts.{key_in}

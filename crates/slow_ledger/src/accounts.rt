@@ -1,7 +1,7 @@
 //! The accounts of a broker. A sum of 2^64 or more is told as want of memory.
 
 ghost use Rattle.std.specs.Prelude.{◌≡◌, ◌<◌, ◌-◌, length, slice_get, IfSome, IfOk, Some, None, if◌then◌else◌, option_map, unwrap_or, sum_by};
-ghost use Rattle.mc_records.specs.Errands.{errand_of};
+ghost use Rattle.mc_requests.specs.Errands.{errand_of};
 ghost use Rattle.ledger_model.specs.Orders as orders;
 ghost use Rattle.ledger_model.specs.Accounts as model;
 ghost use Rattle.ledger_model.specs.Accounts.{is_account_of, account_key, key_in, movement, moved, credited_for, amount_to, amount_from, order_at, order_drawn};
@@ -9,7 +9,8 @@ ghost use Rattle.ledger_model.specs.Accounts.{is_account_of, account_key, key_in
 use crate::counts::sum;
 use crate::prefix::Prefix;
 use mc_base::NoMemory;
-use mc_records::{Errand, Record, RecordDeed, read_errand};
+use mc_records::{Record, RecordDeed};
+use mc_requests::{Errand, read_errand};
 
 fn key_at(h: &Prefix<'_>, n: usize, name: &[u8]) -> Option<[u8; 16]>
     requires { n < length h.now }

@@ -4,7 +4,7 @@
 ghost use Rattle.std.specs.Prelude.{◌≡◌, ◌<◌, ◌+◌, ℕ, length, drop, slice_get, IfSome, IfOk, List, Option, option_to_list, count_by, position};
 ghost use Rattle.std.specs.List.{list_any};
 ghost use Rattle.mc_records.specs.Entry.{Accept, Draw, Deed};
-ghost use Rattle.mc_records.specs.Requests.{asked_of, seen};
+ghost use Rattle.mc_requests.specs.Requests.{asked_of, seen};
 ghost use Rattle.mc_records.specs.Sizes.{size};
 ghost use Rattle.ledger_model.specs.Histories.{History};
 ghost use Rattle.ledger_model.specs.Goods.{is_goods_of, bytes_in, in_force};
@@ -15,7 +15,8 @@ ghost use Rattle.slow_ledger.specs.Slow.{is_of};
 use crate::chains::switched_by;
 use crate::prefix::Prefix;
 use mc_base::{Moment, NoMemory};
-use mc_records::{Errand, Record, Request, read_errand, tail_len};
+use mc_records::{Record, tail_len};
+use mc_requests::{Errand, Request, read_errand};
 use scrip_certs::hex_of;
 use scrip_form::{Id, read_scrip};
 

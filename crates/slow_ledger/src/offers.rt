@@ -2,8 +2,8 @@
 
 ghost use Rattle.std.specs.Prelude.{ℕ, Some, None, IfOk, IfSome, option_map};
 ghost use Rattle.scrip_form.specs.Texts.{IsTarget};
-ghost use Rattle.mc_records.specs.Limits.{AreInRange};
-ghost use Rattle.mc_records.specs.Errands.{errand_of};
+ghost use Rattle.mc_requests.specs.Limits.{AreInRange};
+ghost use Rattle.mc_requests.specs.Errands.{errand_of};
 ghost use Rattle.mc_records.specs.Views.{deed_of};
 ghost use Rattle.ledger_model.specs.Goods.{price_in};
 ghost use Rattle.ledger_model.specs.Houses as houses;
@@ -20,9 +20,8 @@ use crate::prefix::Prefix;
 use crate::stages::Stopped;
 use crate::stock::{slow_for_sale, slow_knows_vendor, slow_licence, slow_licensed_count};
 use mc_base::{Moment, NoMemory};
-use mc_records::{
-    Errand, Limits, MOST_IN_ACCOUNT, RecordDeed, Refusal, errands_are_texts, read_errand,
-};
+use mc_records::{MOST_IN_ACCOUNT, RecordDeed};
+use mc_requests::{Errand, Limits, Refusal, errands_are_texts, read_errand};
 use scrip_form::{Id, Terms};
 
 /// A price, and what it buys.

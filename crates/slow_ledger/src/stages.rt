@@ -2,8 +2,8 @@
 
 ghost use Rattle.std.specs.Prelude.{◌≡◌, ◌+◌, ◌<◌, ◌^◌, nat_lt};
 ghost use Rattle.mc_records.specs.Entry as entries;
-ghost use Rattle.mc_records.specs.Limits.{AreInRange};
-ghost use Rattle.mc_records.specs.Requests.{seen};
+ghost use Rattle.mc_requests.specs.Limits.{AreInRange};
+ghost use Rattle.mc_requests.specs.Requests.{seen};
 ghost use Rattle.ledger_model.specs.Houses as houses;
 ghost use Rattle.ledger_model.specs.Houses.{site_name, is_clear};
 ghost use Rattle.ledger_model.specs.Pieces.{is_spent};
@@ -18,7 +18,8 @@ use crate::filters::{slow_is_clear, slow_is_spent, slow_name, slow_terms};
 use crate::prefix::Prefix;
 use crate::upgrades::slow_version;
 use mc_base::{Moment, NoMemory};
-use mc_records::{Limits, Refusal, tail_len};
+use mc_records::tail_len;
+use mc_requests::{Limits, Refusal};
 use scrip_certs::{certificate, customer_secret, hex_of, sign_request};
 use scrip_form::{Id, ScripRef, Terms};
 

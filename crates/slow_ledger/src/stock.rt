@@ -13,7 +13,8 @@ ghost use Rattle.slow_ledger.specs.Slow.{sale_for, first_open};
 use crate::counts::sum;
 use crate::prefix::Prefix;
 use mc_base::{Moment, NoMemory};
-use mc_records::{Errand, PieceList, Record, RecordDeed, read_errand};
+use mc_records::{PieceList, Record, RecordDeed};
+use mc_requests::{Errand, read_errand};
 use scrip_form::{Id, Piece, Terms, read_scrip};
 
 fn licence_at(h: &Prefix<'_>, n: usize, vendor: &[u8]) -> Option<Terms>

@@ -4,8 +4,8 @@ ghost use Rattle.std.specs.Prelude.{◌≡◌, IfOk, IfSome};
 ghost use Rattle.scrip_form.specs.Scrip.{IsScripText};
 ghost use Rattle.scrip_form.specs.Texts.{IsTarget};
 ghost use Rattle.mc_records.specs.Entry as entries;
-ghost use Rattle.mc_records.specs.Limits.{AreInRange};
-ghost use Rattle.mc_records.specs.Requests.{asked_of};
+ghost use Rattle.mc_requests.specs.Limits.{AreInRange};
+ghost use Rattle.mc_requests.specs.Requests.{asked_of};
 ghost use Rattle.mc_records.specs.Views.{deed_of};
 ghost use Rattle.ledger_model.specs.Houses.{keeping};
 ghost use Rattle.ledger_model.specs.Answer as model;
@@ -21,10 +21,8 @@ use crate::prefix::Prefix;
 use crate::stages::{Stopped, change_for, fitted, genuine, spendable};
 use ledger_model::History;
 use mc_base::{List, Moment, NoMemory};
-use mc_records::{
-    Errand, Limits, PieceList, Record, RecordDeed, Refusal, Request, SiteTerms, read_errand,
-    write_record,
-};
+use mc_records::{PieceList, Record, RecordDeed, SiteTerms, write_record};
+use mc_requests::{Errand, Limits, Refusal, Request, read_errand};
 use scrip_form::{Id, ScripRef, read_scrip};
 use std::alloc::Global;
 

@@ -9,7 +9,8 @@ ghost use Rattle.audit_model.specs.Parts.{part_of};
 use crate::parts::with;
 use audit_model::Part;
 use mc_base::NoMemory;
-use mc_records::{Errand, Record, read_errand};
+use mc_records::Record;
+use mc_requests::{Errand, read_errand};
 use scrip_form::Id;
 use slow_ledger::{Prefix, slow_terms};
 

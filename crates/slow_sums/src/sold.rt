@@ -13,7 +13,8 @@ use crate::parts::with;
 use crate::stock::stocked;
 use audit_model::Part;
 use mc_base::NoMemory;
-use mc_records::{Errand, Record, RecordDeed, read_errand};
+use mc_records::{Record, RecordDeed};
+use mc_requests::{Errand, read_errand};
 use scrip_form::Id;
 use slow_ledger::{Prefix, slow_licence};
 

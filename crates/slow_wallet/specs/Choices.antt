@@ -1,8 +1,8 @@
 -- What the slow evaluators speak of where a piece is chosen and a request is made.
 use Rattle.std.specs.Prelude.{◌≡◌, ℕ, nat_lt, nat_le, max, if◌then◌else◌, List, Option, Some, None, option_map, option_and_then, filter, filter_map, fold}
 use Rattle.std.specs.List.{reduce}
-use Rattle.mc_records.specs.Errands as errands
-use Rattle.mc_records.specs.Errands.{errand_text}
+use Rattle.mc_requests.specs.Errands as errands
+use Rattle.mc_requests.specs.Errands.{errand_text}
 use Rattle.mc_records.specs.Entry.{Held}
 use Rattle.ledger_model.specs.Histories.{History}
 use Rattle.wallet_model.specs.Holdings.{Holding, holding, pieces_came}

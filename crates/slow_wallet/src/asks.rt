@@ -3,8 +3,8 @@
 ghost use Rattle.std.specs.Prelude.{◌≡◌, IfOk};
 ghost use Rattle.std.specs.Result.{result_map_both};
 ghost use Rattle.mc_fields.specs.Puts.{Appends};
-ghost use Rattle.mc_records.specs.Errands as errands;
-ghost use Rattle.mc_records.specs.Errands.{errand_text};
+ghost use Rattle.mc_requests.specs.Errands as errands;
+ghost use Rattle.mc_requests.specs.Errands.{errand_text};
 ghost use Rattle.mc_records.specs.Views.{entry};
 ghost use Rattle.wallet_model.specs.Asks.{pend_entry};
 ghost use Rattle.wallet_model.specs.Asks as model;
@@ -14,7 +14,8 @@ use crate::choice::slow_chosen;
 use itoa::Buffer;
 use mc_base::{Moment, NoMemory};
 use mc_fields::append_both;
-use mc_records::{PieceList, Record, Refusal};
+use mc_records::{PieceList, Record};
+use mc_requests::Refusal;
 use slow_ledger::Prefix;
 use std::alloc::{AllocError, Global};
 
@@ -86,7 +87,7 @@ pub fn slow_pend_entry<'a>(
     requires { target.now ≡ target_of (asking_view asking.now) }
     ensures { result_map_both entry (λ f. f) result ≡ pend_entry h.now moment (asking_view asking.now) }
 {
-    let _pieces: Option<PieceList<'_>> = None;
+    let _parts: Option<PieceList<'_>> = None;
     match *asking {
         Asking::Get { vendor, limit, .. } => paid(h, moment, 0, vendor, target, limit),
         Asking::Buy { broker, limit, .. } => paid(h, moment, 1, broker, target, limit),
@@ -113,7 +114,7 @@ fn paid<'a>(
     ensures { result_map_both entry (λ f. f) result
         ≡ model.paid_with moment ask peer.now target.now (model.chosen h.now moment peer.now limit) }
 {
-    let _pieces: Option<PieceList<'_>> = None;
+    let _parts: Option<PieceList<'_>> = None;
     match slow_chosen(h, moment, peer, limit) {
         Ok(offer) => {
             let scrip = Some(offer.holding.text);

@@ -11,7 +11,7 @@ use crate::came::{brought, count_brought};
 use crate::holdings::Holding;
 use crate::states::{is_held, slow_state};
 use mc_base::Moment;
-use mc_records::Refusal;
+use mc_requests::Refusal;
 use slow_ledger::Prefix;
 use wallet_core::piece_of;
 

@@ -2,7 +2,7 @@
 
 ghost use Rattle.std.specs.Prelude.{◌≡◌, ◌<◌, ◌↔◌, ◌&&◌, not, bytes_eq, length, take, slice_get, IsTrue, IsNone, IfSome};
 ghost use Rattle.mc_records.specs.Chains.{chain, has_switch};
-ghost use Rattle.mc_records.specs.Requests.{seen};
+ghost use Rattle.mc_requests.specs.Requests.{seen};
 ghost use Rattle.wallet_model.specs.Holdings.{has_held};
 ghost use Rattle.wallet_model.specs.Follows as model;
 ghost use Rattle.wallet_model.specs.Follows.{WalletFollows, IsWalletBook, IsFirstAgainst};

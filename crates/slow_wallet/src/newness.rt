@@ -3,7 +3,7 @@
 ghost use Rattle.std.specs.Prelude.{◌≡◌, ◌≤◌, ◌++◌, length, map, take, slice_get, IfSome, option_map, option_to_list};
 ghost use Rattle.std.specs.List.{list_any};
 ghost use Rattle.mc_records.specs.PieceViews.{pieces_of};
-ghost use Rattle.mc_records.specs.Requests.{seen};
+ghost use Rattle.mc_requests.specs.Requests.{seen};
 ghost use Rattle.mc_records.specs.Views.{held_of};
 ghost use Rattle.wallet_model.specs.Holdings.{texts_came};
 ghost use Rattle.wallet_model.specs.Newness as model;

@@ -2,7 +2,7 @@
 
 ghost use Rattle.std.specs.Prelude.{◌≡◌, ◌<◌, length, slice_get, IfSome, option_map};
 ghost use Rattle.std.specs.List.{list_any};
-ghost use Rattle.mc_records.specs.Requests.{seen};
+ghost use Rattle.mc_requests.specs.Requests.{seen};
 ghost use Rattle.wallet_model.specs.Requests as model;
 ghost use Rattle.wallet_model.specs.Requests.{settles};
 ghost use Rattle.wallet_core.specs.Requests.{request_view};

@@ -2,8 +2,8 @@
 
 ghost use Rattle.std.specs.Prelude.{◌≡◌, ◌++◌, IfOk, codes};
 ghost use Rattle.mc_fields.specs.Puts.{Appends};
-ghost use Rattle.mc_records.specs.Replies as texts;
-ghost use Rattle.mc_records.specs.Requests.{seen};
+ghost use Rattle.mc_requests.specs.Replies as texts;
+ghost use Rattle.mc_requests.specs.Requests.{seen};
 ghost use Rattle.scrip_certs.specs.Digests.{request_text};
 ghost use Rattle.hex.specs.Hex.{encode_lower};
 ghost use Rattle.wallet_model.specs.Asks as model;

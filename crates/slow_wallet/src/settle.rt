@@ -1,7 +1,7 @@
 //! The entry by which a reply settles a request.
 
 ghost use Rattle.std.specs.Prelude.{◌≡◌, ◌++◌, IfOk, option_map, option_to_list};
-ghost use Rattle.mc_records.specs.Requests.{seen};
+ghost use Rattle.mc_requests.specs.Requests.{seen};
 ghost use Rattle.mc_records.specs.Views.{entry, held_of};
 ghost use Rattle.wallet_model.specs.Holdings.{texts_came};
 ghost use Rattle.wallet_model.specs.Settling as model;
@@ -78,7 +78,7 @@ pub fn slow_settlement<'a>(
     ensures { IfOk result
         (λ e. entry e ≡ model.settlement h.now moment number (request_view p.now) (received_of r.now)) }
 {
-    let _pieces: Option<PieceList<'_>> = None;
+    let _parts: Option<PieceList<'_>> = None;
     if r.status != 200 {
         let refusal = refusal_number(r.refusal);
         return Ok(Record::Refused {

@@ -2,7 +2,7 @@
 use Rattle.std.proofs.Common.{◌≡◌, ℕ, zero, suc, ◌<◌, List, Result, Ok, Err, subst, arith}
 use Rattle.std.specs.Prelude.{OnOk}
 use Rattle.mc_outside.specs.LinkView.{LinkView}
-use Rattle.mc_records.specs.declared.limits.Limits.{Limits}
+use Rattle.mc_requests.specs.declared.limits.Limits.{Limits}
 use Rattle.millicent_http.specs.declared.clock.Clock.TheVariants.{At}
 use Rattle.millicent_http.specs.Steps.{Did}
 use Rattle.millicent_http.specs.Courses.{HadLinks, NoLink, ServedSome}

@@ -1,6 +1,6 @@
 -- What a vendor's operator mints, by the numbers of the words.
 use Rattle.std.proofs.Common.{◌≡◌, ◌∙◌, ℕ, List}
-use Rattle.mc_records.specs.declared.limits.Limits.{Limits}
+use Rattle.mc_requests.specs.declared.limits.Limits.{Limits}
 use Rattle.ledger_model.specs.Histories.{History}
 use Rattle.house_core.specs.Tasks.{Task}
 use Rattle.vendor_core.specs.Tasks.{IsMintTask, IsMintAt, mint_lines}

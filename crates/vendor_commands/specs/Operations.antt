@@ -1,7 +1,7 @@
 -- What the operations of a vendor's operator mean.
 use Rattle.std.specs.Prelude.{◌≡◌, ◌⊎◌, ℕ, ◌+◌, ◌<◌, ◌≤◌, List, [], ◌++◌, length, Some, None, unwrap_or, codes, decimal, ◌∷◌}
 use Rattle.mc_records.specs.declared.ranges.TheConstants.{MOST_CONTENTS}
-use Rattle.mc_records.specs.declared.refusal.Refusal.TheVariants.{ContentsFull}
+use Rattle.mc_requests.specs.declared.refusal.Refusal.TheVariants.{ContentsFull}
 use Rattle.ledger_model.specs.Houses.{site_name}
 use Rattle.house_core.specs.Tasks.{Refuse, after}
 use Rattle.house_core.specs.Upgrading.{upgrade_task}

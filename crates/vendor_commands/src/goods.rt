@@ -11,7 +11,8 @@ ghost use Rattle.vendor_commands.specs.Operations.{goods_operation, begins_goods
 
 use house_core::{House, Outcome};
 use mc_outside::Disk;
-use mc_records::{MOST_CONTENTS, Refusal};
+use mc_records::MOST_CONTENTS;
+use mc_requests::Refusal;
 use operator_command::without_answer;
 use site_words::Listing;
 use vendor_core::{Shelf, set_goods};

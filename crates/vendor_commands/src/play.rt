@@ -9,7 +9,8 @@ use crate::shop::{entered, start};
 use house_core::Bench;
 use house_serving::serve_bench;
 use mc_base::{List, NoMemory};
-use mc_records::{Limits, PieceList, Record, RecordTerms, SiteTerms};
+use mc_records::{PieceList, Record, RecordTerms, SiteTerms};
+use mc_requests::Limits;
 use play_heads::{Heads, heads_told_are_of_their_play, play_terms};
 use scrip_form::{Secrets, Terms};
 use std::alloc::Global;
@@ -78,7 +79,7 @@ fn open_play(alloc: Global) -> Result<Bench<Shelf>, NoMemory>
 fn found_play(alloc: Global) -> Result<Bench<Shelf>, NoMemory>
     ensures { IfOk result (λ b. IsOpen b (play_founding ∷ [])) }
 {
-    let _pieces: Option<PieceList<'_>> = None;
+    let _parts: Option<PieceList<'_>> = None;
     let terms = house_terms();
     let site = Record::Site {
         moment: start(),

@@ -8,7 +8,8 @@ ghost use Rattle.vendor_commands.specs.Opening.{terms_of, founding, opening, IsO
 
 use house_core::{Bench, EnterFault};
 use mc_base::{Moment, NoMemory};
-use mc_records::{Limits, PieceList, Record, RecordTerms, SiteTerms};
+use mc_records::{PieceList, Record, RecordTerms, SiteTerms};
+use mc_requests::Limits;
 use scrip_form::{Secrets, Terms};
 use site_words::Shop;
 use std::alloc::Global;

@@ -9,7 +9,7 @@ use Rattle.std.proofs.Math.Nat.{mul-le-mul, div-mul-le_self}
 use Rattle.scrip_form.specs.Identities.{numbered, epoch_of, series_of}
 use Rattle.scrip_form.specs.Scrip.{Scrip}
 use Rattle.scrip_form.specs.Issuing.{Issuing, HasPeriod, epoch, series_end}
-use Rattle.mc_records.specs.declared.limits.Limits.{Limits}
+use Rattle.mc_requests.specs.declared.limits.Limits.{Limits}
 use Rattle.mc_records.specs.Entry.{House, Entry, Site, Mint, Fits, SiteFits, moment_of}
 use Rattle.ledger_model.specs.declared.numbers.TheConstants.{VENDOR_KIND}
 use Rattle.ledger_model.specs.Histories.{History, time}

@@ -8,8 +8,8 @@ use Rattle.std.proofs.lemmas.Bool.{lt-ltb, le-ltb}
 use Rattle.mc_outside.specs.DiskView.{DiskView, Ran}
 use Rattle.scrip_form.specs.Issuing.{Issuing}
 use Rattle.issuer_terms.specs.Terms.{are_same_terms}
-use Rattle.mc_records.specs.declared.limits.Limits.{Limits}
-use Rattle.mc_records.specs.declared.refusal.Refusal.TheVariants.{ContentsFull, IssuerTaken}
+use Rattle.mc_requests.specs.declared.limits.Limits.{Limits}
+use Rattle.mc_requests.specs.declared.refusal.Refusal.TheVariants.{ContentsFull, IssuerTaken}
 use Rattle.mc_records.specs.Cells.{kind_of}
 use Rattle.mc_records.specs.Entry.{Entry, AddTerms, Goods, Mint}
 use Rattle.ledger_model.specs.declared.numbers.TheConstants.{VENDOR_KIND, MOST_IN_FORCE}

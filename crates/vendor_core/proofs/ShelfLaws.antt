@@ -10,8 +10,8 @@ use Rattle.std.proofs.lemmas.List.Folds.{list_any-append}
 use Rattle.std.proofs.lemmas.Slice.Eq.{bytes_eq-Decides}
 use Rattle.std.proofs.lemmas.Option.{slice_get_within, IfSome_then, same_Some}
 use Rattle.scrip_form.specs.Issuing.{Issuing}
-use Rattle.mc_records.specs.declared.limits.Limits.{Limits}
-use Rattle.mc_records.specs.declared.refusal.Refusal.TheVariants.{TooLittle}
+use Rattle.mc_requests.specs.declared.limits.Limits.{Limits}
+use Rattle.mc_requests.specs.declared.refusal.Refusal.TheVariants.{TooLittle}
 use Rattle.mc_records.specs.Entry.{Entry, Goods, Mint, goods_deed}
 use Rattle.ledger_model.specs.declared.numbers.TheConstants.{VENDOR_KIND, MOST_IN_FORCE}
 use Rattle.ledger_model.specs.Histories.{History}

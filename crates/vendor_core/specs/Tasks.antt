@@ -2,8 +2,8 @@
 use Rattle.std.specs.Prelude.{◌≡◌, ℕ, ◌+◌, ◌<◌, ◌≤◌, ◌⊎◌, nat_lt, IsFalse, if◌then◌else◌, List, [], ◌∷◌, ◌++◌, take, Option, Some, None, slice_get, option_map, unwrap_or}
 use Rattle.scrip_form.specs.Issuing.{Issuing}
 use Rattle.issuer_terms.specs.Terms.{are_same_terms}
-use Rattle.mc_records.specs.declared.limits.Limits.{Limits}
-use Rattle.mc_records.specs.declared.refusal.Refusal.TheVariants.{NoSuchGoods, SeriesFull, ContentsFull, IssuerTaken, RefUsed}
+use Rattle.mc_requests.specs.declared.limits.Limits.{Limits}
+use Rattle.mc_requests.specs.declared.refusal.Refusal.TheVariants.{NoSuchGoods, SeriesFull, ContentsFull, IssuerTaken, RefUsed}
 use Rattle.mc_records.specs.Entry.{Entry, AddTerms, Goods, Mint}
 use Rattle.ledger_model.specs.declared.numbers.TheConstants.{MOST_IN_FORCE}
 use Rattle.ledger_model.specs.Histories.{History}

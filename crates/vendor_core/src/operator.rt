@@ -27,7 +27,8 @@ use issuer_terms::{are_same, terms_fit};
 use ledger_model::MOST_IN_FORCE;
 use mc_base::{Amount, Moment, NoMemory};
 use mc_outside::Disk;
-use mc_records::{PieceList, Record, RecordTerms, Refusal, SiteTerms};
+use mc_records::{PieceList, Record, RecordTerms, SiteTerms};
+use mc_requests::Refusal;
 use scrip_form::{Id, Name, Target, Terms};
 use scrip_journal::Receipt;
 

@@ -14,7 +14,8 @@ use house_state::{Body, DrawAsk, Offer, SiteKind, Trade, Unlawful, body_of_deed}
 use kept_replies::Deed;
 use ledger_model::MOST_IN_FORCE;
 use mc_base::{Amount, Moment, NoMemory};
-use mc_records::{Limits, Record, Refusal};
+use mc_records::Record;
+use mc_requests::{Limits, Refusal};
 use name_places::NamePlaces;
 use std::alloc::Global;
 

@@ -14,7 +14,7 @@ use Rattle.ledger_model.specs.Houses.{site_name}
 use Rattle.ledger_model.proofs.FollowLaws.{size_snoc}
 use Rattle.std.specs.Prelude.{filter_map}
 use Rattle.std.specs.List.{enumerate_from}
-use Rattle.mc_records.specs.declared.refusal.Refusal.{Refusal}
+use Rattle.mc_requests.specs.declared.refusal.Refusal.{Refusal}
 use Rattle.wallet_model.specs.Asks.{offered_at, is_fit, chosen_by, chosen, due_of, due}
 use Rattle.wallet_model.specs.Holdings as model
 use Rattle.wallet_model.specs.Requests.{Pending, oldest_kept, kept_get}

@@ -3,13 +3,13 @@ use Rattle.std.proofs.Common.{◌≡◌, ℕ, zero, suc, ◌<◌, ◌≤◌, Boo
 use Rattle.std.specs.Prelude.{◌==◌, option_to_list, IfSome}
 use Rattle.std.specs.Borrow.{Bor}
 use Rattle.scrip_form.specs.Scrip.{IsScripText}
-use Rattle.mc_records.specs.Requests.{seen}
+use Rattle.mc_requests.specs.Requests.{seen}
 use Rattle.mc_records.specs.Views.{held_of}
 use Rattle.std.specs.List.{AllByRecursion}
 use Rattle.mc_records.specs.Entry.{Held, HeldFits, Got, Pend, Done, Refused, Switch}
 use Rattle.mc_records.specs.Chains.{chain, has_switch}
 use Rattle.std.proofs.lemmas.Slice.Eq.{bytes_eq-Decides}
-use Rattle.mc_records.specs.Errands.{errand_of}
+use Rattle.mc_requests.specs.Errands.{errand_of}
 use Rattle.ledger_model.specs.Histories.{History}
 use Rattle.wallet_model.specs.Holdings as model
 use Rattle.wallet_model.specs.Holdings.{holdings, texts_came, refused_state}

@@ -3,7 +3,7 @@ use Rattle.std.proofs.Common.{◌≡◌, ℕ, Bool, true, false, ◌&&◌, cond,
 use Rattle.std.proofs.lemmas.Slice.Eq.{bytes_eq-Decides}
 use Rattle.std.specs.List.{list_any}
 use Rattle.scrip_form.specs.Scrip.{Scrip}
-use Rattle.mc_records.specs.Errands.{errand_of}
+use Rattle.mc_requests.specs.Errands.{errand_of}
 use Rattle.ledger_model.specs.Pieces.{piece_of}
 use Rattle.wallet_model.specs.Holdings.{is_held}
 use Rattle.wallet_model.specs.Newness.{are_new}

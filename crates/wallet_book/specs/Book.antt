@@ -1,6 +1,6 @@
 -- What a wallet keeps in place of its book.
 use Rattle.std.specs.Prelude.{◌≡◌, ℕ, ◌+◌, ◌≤◌, Bool, true, false, List, [], ◌∷◌, ◌++◌, length, option_to_list}
-use Rattle.mc_records.specs.declared.limits.Limits.{Limits}
+use Rattle.mc_requests.specs.declared.limits.Limits.{Limits}
 use Rattle.mc_records.specs.Entry.{Entry, Site, Got, Pend, Done}
 use Rattle.mc_records.specs.Chains.{has_switch}
 use Rattle.mc_records.specs.Sizes.{size}

@@ -1,8 +1,8 @@
 -- The piece to pay with, among those in memory.
 use Rattle.std.specs.Prelude.{◌≡◌, ℕ, ◌<◌, nat_lt, nat_le, if◌then◌else◌, Bool, true, false, List, map, filter, filter_map, slice_get, Option, Some, None, Result, Ok, Err}
 use Rattle.std.specs.List.{enumerate_from, reduce}
-use Rattle.mc_records.specs.declared.refusal.Refusal.{Refusal}
-use Rattle.mc_records.specs.declared.refusal.Refusal.TheVariants.{NoFunds}
+use Rattle.mc_requests.specs.declared.refusal.Refusal.{Refusal}
+use Rattle.mc_requests.specs.declared.refusal.Refusal.TheVariants.{NoFunds}
 use Rattle.wallet_model.specs.Asks.{Offered, offered_at, is_fit, greatest_value}
 use Rattle.wallet_book.specs.declared.holding.Holding.{Holding}
 use Rattle.wallet_book.specs.declared.holding.State.TheVariants.{Held}

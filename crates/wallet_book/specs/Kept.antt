@@ -1,8 +1,8 @@
 -- The requests that a wallet keeps in memory, as the definitions have them.
 use Rattle.std.specs.Prelude.{◌≡◌, ℕ, ◌<◌, ◌==◌, ◌&&◌, Bool, bytes_eq, Result, Ok, Err, List, Option, Some, None, IfSome, option_and_then, slice_get, if◌then◌else◌}
 use Rattle.std.specs.List.{AllByRecursion}
-use Rattle.mc_records.specs.declared.refusal.Refusal.{Refusal}
-use Rattle.mc_records.specs.declared.refusal.Refusal.TheVariants.{Nothing}
+use Rattle.mc_requests.specs.declared.refusal.Refusal.{Refusal}
+use Rattle.mc_requests.specs.declared.refusal.Refusal.TheVariants.{Nothing}
 use Rattle.ledger_model.specs.Histories.{History}
 use Rattle.wallet_model.specs.Requests.{Pending, pending_in, is_kept}
 use Rattle.wallet_book.specs.declared.kept.Kept.{Kept}

@@ -3,7 +3,7 @@ use Rattle.std.specs.Prelude.{◌≡◌, ℕ, zero, suc, ◌≤◌, ◌&&◌, Bo
 use Rattle.std.specs.List.{list_any}
 use Rattle.scrip_form.specs.Scrip.{IsScripText}
 use Rattle.mc_records.specs.Entry.{Held, Entry}
-use Rattle.mc_records.specs.Errands.{errand_of}
+use Rattle.mc_requests.specs.Errands.{errand_of}
 use Rattle.ledger_model.specs.Histories.{History}
 use Rattle.wallet_model.specs.Requests.{kept_requests}
 use Rattle.wallet_model.specs.Holdings as model

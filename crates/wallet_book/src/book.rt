@@ -1,7 +1,7 @@
 //! What a wallet keeps in place of its book.
 
 ghost use Rattle.std.specs.Prelude.{◌||◌, ◌≡◌, ◌==◌, ◌+◌, ◌-◌, ◌<◌, ◌≤◌, ◌∷◌, [], length, max, true, vec_len, vec_capacity, map, find, option_map, OnOk, IfErr, IfSome};
-ghost use Rattle.mc_records.specs.declared.refusal.Refusal.TheVariants.{Nothing};
+ghost use Rattle.mc_requests.specs.declared.refusal.Refusal.TheVariants.{Nothing};
 ghost use Rattle.mc_records.specs.Chains.{TellsChain, has_switch};
 ghost use Rattle.mc_records.specs.Entry.{Fits, moment_of, payload};
 ghost use Rattle.mc_records.specs.Sizes.{size, entry_size};
@@ -26,7 +26,8 @@ use crate::holding::Holding;
 use crate::kept::Kept;
 use crate::parts::Parts;
 use mc_base::{Amount, Moment, NoMemory};
-use mc_records::{EMPTY_JOURNAL, FRAME, Limits, Record, Refusal, grown_size};
+use mc_records::{EMPTY_JOURNAL, FRAME, Record, grown_size};
+use mc_requests::{Limits, Refusal};
 use scrip_form::{Name, ScripRef, Target};
 use std::alloc::Global;
 use std::marker::Model;
@@ -53,7 +54,7 @@ pub struct WalletBook {
 
 impl Model for WalletBook {
     ghost use Rattle.std.specs.Prelude.{◌≤◌, ◌-◌, vec_len, vec_capacity};
-    ghost use Rattle.mc_records.specs.declared.limits.TheConstants.Limits.{MOST_JOURNAL};
+    ghost use Rattle.mc_requests.specs.declared.limits.TheConstants.Limits.{MOST_JOURNAL};
     ghost use Rattle.wallet_book.specs.Book.{BookView};
 
     ghost Value = { BookView };

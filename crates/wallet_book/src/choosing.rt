@@ -8,7 +8,7 @@ ghost use Rattle.wallet_book.specs.Choosing.{fit_among, Chooses, IsNoFunds, IsFi
 
 use crate::holding::{Holding, State};
 use mc_base::{Amount, Moment};
-use mc_records::Refusal;
+use mc_requests::Refusal;
 use scrip_form::Name;
 
 /// The place of the piece to pay with: of the held pieces of a vendor that are not expired at a time and cover

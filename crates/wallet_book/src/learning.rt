@@ -5,7 +5,7 @@ ghost use Rattle.scrip_form.specs.Scrip.{IsScripText};
 ghost use Rattle.scrip_form.specs.Texts.{IsName, IsTarget};
 ghost use Rattle.mc_records.specs.Entry.{Got, Pend, Done, Refused};
 ghost use Rattle.mc_records.specs.PieceViews.{pieces_of};
-ghost use Rattle.mc_records.specs.Requests.{seen};
+ghost use Rattle.mc_requests.specs.Requests.{seen};
 ghost use Rattle.mc_records.specs.Views.{held_of};
 ghost use Rattle.ledger_model.specs.Histories.{History};
 ghost use Rattle.wallet_model.specs.Holdings.{refused_state};

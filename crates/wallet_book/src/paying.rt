@@ -1,7 +1,7 @@
 //! The piece that a request pays with.
 
 ghost use Rattle.std.specs.Prelude.{◌≡◌, [], true, bytes_eq};
-ghost use Rattle.mc_records.specs.Errands.{errand_of};
+ghost use Rattle.mc_requests.specs.Errands.{errand_of};
 ghost use Rattle.wallet_model.specs.Newness.{are_new};
 ghost use Rattle.wallet_model.specs.Follows.{is_buy, is_draw};
 ghost use Rattle.wallet_book.specs.Holdings.{texts_of, text_of};
@@ -9,7 +9,7 @@ ghost use Rattle.wallet_book.specs.Parts.{FindsHeld, FindsPayment, if_held};
 
 use crate::holding::{Holding, State};
 use crate::holdings::Holdings;
-use mc_records::{Errand, read_errand};
+use mc_requests::{Errand, read_errand};
 use scrip_form::{ScripRef, read_scrip, write_scrip};
 
 /// The place of the piece that a request may pay with: it is held and of the peer, and where the request is to

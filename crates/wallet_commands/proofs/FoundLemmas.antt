@@ -5,7 +5,7 @@ use Rattle.mc_outside.specs.DiskView.{DiskView, LinkKeeps, OnlyRead, Ran}
 use Rattle.mc_outside.specs.LinkView.{LinkView}
 use Rattle.mc_outside.proofs.Runs.{ran_then, ran_weaker}
 use Rattle.scrip_form.specs.Texts.{IsName}
-use Rattle.mc_records.specs.declared.limits.TheConstants.Limits.{FULL}
+use Rattle.mc_requests.specs.declared.limits.TheConstants.Limits.{FULL}
 use Rattle.mc_records.specs.Entry.{Entry, Fits}
 use Rattle.mc_records.specs.Sizes.{empty_size, entry_size}
 use Rattle.mc_records.proofs.SizeLaws.{tail_is_short}

@@ -6,10 +6,10 @@ use Rattle.std.proofs.lemmas.Bool.{eqb-true, eq-eqb}
 use Rattle.mc_outside.specs.DiskView.{DiskView, IsDisk, LinkKeeps, Ran}
 use Rattle.mc_outside.specs.LinkView.{LinkView}
 use Rattle.mc_outside.proofs.Runs.{ran_none, ran_then, ran_weaker, ran_now}
-use Rattle.mc_records.specs.declared.limits.Limits.{Limits}
-use Rattle.mc_records.specs.declared.limits.TheConstants.Limits.{FULL}
-use Rattle.mc_records.specs.declared.refusal.Refusal.{Refusal}
-use Rattle.mc_records.specs.declared.refusal.Refusal.TheVariants as refusals
+use Rattle.mc_requests.specs.declared.limits.Limits.{Limits}
+use Rattle.mc_requests.specs.declared.limits.TheConstants.Limits.{FULL}
+use Rattle.mc_requests.specs.declared.refusal.Refusal.{Refusal}
+use Rattle.mc_requests.specs.declared.refusal.Refusal.TheVariants as refusals
 use Rattle.mc_records.specs.Entry.{Held, Entry}
 use Rattle.scrip_form.specs.Scrip.{Scrip}
 use Rattle.ledger_model.specs.Histories.{History}

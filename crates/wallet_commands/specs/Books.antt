@@ -7,7 +7,7 @@ use Rattle.ledger_model.specs.Histories.{History}
 use Rattle.scrip_journal.specs.Layout.{Encodes}
 use Rattle.command_status.specs.declared.status.Status.{Status}
 use Rattle.command_status.specs.declared.status.Status.TheVariants as ends
-use Rattle.mc_records.specs.declared.limits.TheConstants.Limits.{FULL}
+use Rattle.mc_requests.specs.declared.limits.TheConstants.Limits.{FULL}
 use Rattle.wallet_model.specs.Follows.{IsWalletBook}
 use Rattle.wallet_core.specs.WalletView.{WalletView}
 use Rattle.wallet_core.specs.Wallet.{WalletStands}

@@ -3,7 +3,7 @@ use Rattle.std.specs.Prelude.{◌≡◌, ◌⊎◌, ℕ, if◌then◌else◌, Li
 use Rattle.mc_outside.specs.DiskView.{DiskView, Ran}
 use Rattle.mc_outside.specs.LinkView.{LinkView}
 use Rattle.mc_records.specs.Chains.{chain, has_switch}
-use Rattle.mc_records.specs.declared.limits.TheConstants.Limits.{FULL}
+use Rattle.mc_requests.specs.declared.limits.TheConstants.Limits.{FULL}
 use Rattle.mc_records.specs.Entry.{Entry, Switch}
 use Rattle.ledger_model.specs.Histories.{History}
 use Rattle.ledger_model.specs.Houses.{site_name}

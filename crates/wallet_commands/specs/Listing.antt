@@ -2,7 +2,7 @@
 use Rattle.std.specs.Prelude.{◌≡◌, ◌⊎◌, ℕ, List, [], Some}
 use Rattle.mc_outside.specs.DiskView.{DiskView}
 use Rattle.mc_outside.specs.LinkView.{LinkView}
-use Rattle.mc_records.specs.declared.refusal.Refusal.TheVariants as refusals
+use Rattle.mc_requests.specs.declared.refusal.Refusal.TheVariants as refusals
 use Rattle.ledger_model.specs.Histories.{History}
 use Rattle.scrip_journal.specs.Layout.{Encodes}
 use Rattle.command_status.specs.declared.status.Status.{Status}

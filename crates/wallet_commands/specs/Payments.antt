@@ -1,8 +1,8 @@
 -- What is learned of a request on one link.
 use Rattle.std.specs.Prelude.{◌≡◌, ◌⊎◌, ℕ, ◌<◌, List, length, take, Some, None, Result, Ok, Err}
 use Rattle.mc_outside.specs.LinkView.{LinkView, next_taken, none_left, after_send, Failed}
-use Rattle.mc_records.specs.declared.refusal.Refusal.{Refusal}
-use Rattle.mc_records.specs.declared.refusal.Refusal.TheVariants as refusals
+use Rattle.mc_requests.specs.declared.refusal.Refusal.{Refusal}
+use Rattle.mc_requests.specs.declared.refusal.Refusal.TheVariants as refusals
 use Rattle.millicent_http.specs.Courses.{NoLink}
 use Rattle.reply_reader.specs.declared.reply.ReplyFault.{ReplyFault}
 use Rattle.reply_reader.specs.declared.reply.ReplyFault.TheVariants as replies

@@ -2,8 +2,8 @@
 use Rattle.std.specs.Prelude.{◌≡◌, ◌⊎◌, ℕ, List, ◌++◌, Option, Some, None, IsSome, Result, Ok, Err, option_and_then, slice_get}
 use Rattle.mc_outside.specs.DiskView.{DiskView, Ran}
 use Rattle.mc_outside.specs.LinkView.{LinkView}
-use Rattle.mc_records.specs.declared.refusal.Refusal.{Refusal}
-use Rattle.mc_records.specs.declared.refusal.Refusal.TheVariants as refusals
+use Rattle.mc_requests.specs.declared.refusal.Refusal.{Refusal}
+use Rattle.mc_requests.specs.declared.refusal.Refusal.TheVariants as refusals
 use Rattle.ledger_model.specs.Histories.{History}
 use Rattle.scrip_journal.specs.Layout.{Encodes}
 use Rattle.mc_records.specs.Entry.{Entry}

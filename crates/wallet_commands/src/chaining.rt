@@ -2,7 +2,7 @@
 
 ghost use Rattle.std.specs.Prelude.{◌≡◌, ◌+◌, ◌≤◌, List as Items, ℕ, Some, IfOk, vec_len, vec_capacity};
 ghost use Rattle.command_status.specs.Statuses.{number_of};
-ghost use Rattle.mc_records.specs.declared.limits.TheConstants.Limits.{FULL};
+ghost use Rattle.mc_requests.specs.declared.limits.TheConstants.Limits.{FULL};
 ghost use Rattle.ledger_model.specs.Histories.{History};
 ghost use Rattle.ledger_model.specs.Houses.{site_name};
 ghost use Rattle.said_lines.specs.Lines.{chain_words};
@@ -17,7 +17,7 @@ ghost use Rattle.wallet_commands.specs.Chaining.{ChainsBook, EndsLine, HasChaine
 use command_status::{Status, not_opened};
 use mc_base::{List, NoMemory};
 use mc_outside::{Disk, Outside};
-use mc_records::Limits;
+use mc_requests::Limits;
 use said_lines::{READY, begin_chain, end_chain, lay_bare, ready};
 use scrip_form::Name;
 use scrip_journal::Receipt;

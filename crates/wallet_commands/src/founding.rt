@@ -6,7 +6,7 @@ ghost use Rattle.wallet_commands.specs.Founding.{FoundsBook, InitCauses};
 
 use command_status::{Status, not_opened};
 use mc_outside::{Link, Outside};
-use mc_records::Limits;
+use mc_requests::Limits;
 use scrip_form::Name;
 use std::alloc::Global;
 use wallet_core::found_wallet;

@@ -13,7 +13,7 @@ use command_status::{Status, not_opened};
 use held_lines::{LinesFault, append_held};
 use mc_base::List;
 use mc_outside::{Disk, Outside};
-use mc_records::Limits;
+use mc_requests::Limits;
 use scrip_form::Name;
 use std::alloc::Global;
 use wallet_core::{Wallet, open_wallet, raise_by_clock};

@@ -3,7 +3,7 @@
 ghost use Rattle.std.specs.Prelude.{◌≡◌, ◌+◌, ◌≤◌, [], List as Items, ℕ, Some, IfOk, vec_len, vec_capacity};
 ghost use Rattle.command_status.specs.Statuses.{number_of};
 ghost use Rattle.wallet_core.specs.Asks.{HasAmounts, asking_of};
-ghost use Rattle.mc_records.specs.declared.limits.TheConstants.Limits.{FULL};
+ghost use Rattle.mc_requests.specs.declared.limits.TheConstants.Limits.{FULL};
 ghost use Rattle.wallet_model.specs.Requests.{oldest_kept};
 ghost use Rattle.wallet_model.specs.Asks.{pend_entry};
 ghost use Rattle.wallet_commands.specs.Books.{IsKnown, Opened};
@@ -16,7 +16,7 @@ use crate::settling::use_link;
 use command_status::{Status, not_opened};
 use mc_base::NoMemory;
 use mc_outside::Outside;
-use mc_records::Limits;
+use mc_requests::Limits;
 use reply_reader::ReplyReader;
 use said_lines::READY;
 use scrip_form::Name;

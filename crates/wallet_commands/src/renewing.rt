@@ -2,7 +2,7 @@
 
 ghost use Rattle.std.specs.Prelude.{◌≡◌, ◌+◌, ◌≤◌, [], List as Items, ℕ, Some, slice_get, vec_len, vec_capacity};
 ghost use Rattle.command_status.specs.Statuses.{number_of};
-ghost use Rattle.mc_records.specs.declared.limits.TheConstants.Limits.{FULL};
+ghost use Rattle.mc_requests.specs.declared.limits.TheConstants.Limits.{FULL};
 ghost use Rattle.wallet_model.specs.Asks.{due_entry};
 ghost use Rattle.wallet_book.specs.declared.holding.Holding.{Holding as Piece};
 ghost use Rattle.wallet_core.specs.declared.ask.Ask.TheVariants.{Get};
@@ -17,7 +17,7 @@ use crate::settling::use_link;
 use command_status::{Status, not_opened};
 use mc_base::{Moment, NoMemory};
 use mc_outside::{Disk, Outside};
-use mc_records::{Limits, Refusal};
+use mc_requests::{Limits, Refusal};
 use reply_reader::ReplyReader;
 use said_lines::READY;
 use scrip_form::{Name, Target};

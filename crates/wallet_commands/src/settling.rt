@@ -2,7 +2,7 @@
 
 ghost use Rattle.std.specs.Prelude.{◌≡◌, ◌+◌, ◌≤◌, [], Some, length, vec_len, vec_capacity, IsTrue};
 ghost use Rattle.command_status.specs.Statuses.{number_of};
-ghost use Rattle.mc_records.specs.declared.limits.TheConstants.Limits.{FULL};
+ghost use Rattle.mc_requests.specs.declared.limits.TheConstants.Limits.{FULL};
 ghost use Rattle.ledger_model.specs.Histories.{History};
 ghost use Rattle.reply_reader.specs.Seen.{received_of};
 ghost use Rattle.wallet_model.specs.Requests.{Pending};
@@ -19,7 +19,7 @@ use crate::sending::{SendFault, send_request};
 use command_status::Status;
 use mc_base::List;
 use mc_outside::{Disk, LinkFault, Outside};
-use mc_records::Refusal;
+use mc_requests::Refusal;
 use reply_reader::{ReplyFault, ReplyReader, ReplyRef};
 use said_lines::READY;
 use scrip_form::Piece;

@@ -1,7 +1,7 @@
 //! Taking pieces.
 
 ghost use Rattle.std.specs.Prelude.{◌≡◌, ◌⊎◌, ◌+◌, ◌≤◌, [], List as Items, ℕ, Some, vec_len, vec_capacity};
-ghost use Rattle.mc_records.specs.declared.limits.TheConstants.Limits.{FULL};
+ghost use Rattle.mc_requests.specs.declared.limits.TheConstants.Limits.{FULL};
 ghost use Rattle.command_status.specs.Statuses.{number_of};
 ghost use Rattle.wallet_core.specs.Outcomes.{outcome_disk};
 ghost use Rattle.wallet_commands.specs.Books.{Opened};
@@ -12,7 +12,7 @@ use crate::lines::{line_room, put_taken};
 use command_status::{Status, not_opened};
 use mc_base::List;
 use mc_outside::Outside;
-use mc_records::Limits;
+use mc_requests::Limits;
 use millicent_http::{InputFault, input_of};
 use said_lines::READY;
 use std::alloc::Global;

@@ -5,11 +5,11 @@ use Rattle.std.proofs.lemmas.Slice.Eq.{bytes_eq-Decides}
 use Rattle.std.specs.Prelude.{nat_le, filter_map, slice_get, IfOk}
 use Rattle.std.specs.List.{AllByRecursion, enumerate_from, cons_option}
 use Rattle.scrip_form.specs.Scrip.{Scrip}
-use Rattle.mc_records.specs.declared.refusal.Refusal.{Refusal}
-use Rattle.mc_records.specs.declared.refusal.Refusal.TheVariants.{NothingDue}
-use Rattle.mc_records.specs.Errands as errands
-use Rattle.mc_records.specs.Errands.{IsErrand, errand_text}
-use Rattle.mc_records.proofs.ErrandLaws.{errand_read}
+use Rattle.mc_requests.specs.declared.refusal.Refusal.{Refusal}
+use Rattle.mc_requests.specs.declared.refusal.Refusal.TheVariants.{NothingDue}
+use Rattle.mc_requests.specs.Errands as errands
+use Rattle.mc_requests.specs.Errands.{IsErrand, errand_text}
+use Rattle.mc_requests.proofs.ErrandLaws.{errand_read}
 use Rattle.mc_records.specs.Entry.{Entry, Pend}
 use Rattle.ledger_model.specs.Histories.{History}
 use Rattle.ledger_model.specs.Pieces.{piece_of}

@@ -8,8 +8,8 @@ use Rattle.std.proofs.lemmas.List.Sums.{sum_by-cons}
 use Rattle.std.proofs.lemmas.Slice.Eq.{bytes_eq-Decides}
 use Rattle.std.specs.List.{AllByRecursion, list_any}
 use Rattle.scrip_form.specs.Scrip.{Scrip}
-use Rattle.mc_records.specs.declared.refusal.Refusal.{Refusal}
-use Rattle.mc_records.specs.declared.refusal.Refusal.TheVariants.{TwiceHeld}
+use Rattle.mc_requests.specs.declared.refusal.Refusal.{Refusal}
+use Rattle.mc_requests.specs.declared.refusal.Refusal.TheVariants.{TwiceHeld}
 use Rattle.mc_records.specs.Entry.{Held, HeldFits, Got, ArePieces, IsMoment}
 use Rattle.mc_records.specs.Pieces.{pieces_bytes}
 use Rattle.ledger_model.specs.Histories.{History}

@@ -1,7 +1,7 @@
 -- What the calls of a wallet answer.
 use Rattle.std.specs.Prelude.{◌≡◌, ℕ, length}
-use Rattle.mc_records.specs.declared.refusal.Refusal.{Refusal}
-use Rattle.mc_records.specs.declared.refusal.Refusal.TheVariants.{BadInput, TwiceHeld, NoFunds, JournalFull, BadReply, Unproved}
+use Rattle.mc_requests.specs.declared.refusal.Refusal.{Refusal}
+use Rattle.mc_requests.specs.declared.refusal.Refusal.TheVariants.{BadInput, TwiceHeld, NoFunds, JournalFull, BadReply, Unproved}
 use Rattle.mc_records.specs.Entry.{Entry, Got}
 use Rattle.ledger_model.specs.Histories.{History}
 use Rattle.wallet_core.specs.declared.outcome.WalletOut.{WalletOut}

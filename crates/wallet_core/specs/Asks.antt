@@ -1,9 +1,9 @@
 -- What is asked of a wallet, as the definitions have it.
 use Rattle.std.specs.Prelude.{◌≡◌, ℕ, ◌<◌, ◌≤◌, List, Option, Some, None, Result, Ok, Err, slice_get}
-use Rattle.mc_records.specs.declared.refusal.Refusal.{Refusal}
+use Rattle.mc_requests.specs.declared.refusal.Refusal.{Refusal}
 use Rattle.mc_records.specs.Entry.{Entry, Pend}
-use Rattle.mc_records.specs.Errands as errands
-use Rattle.mc_records.specs.Errands.{errand_text}
+use Rattle.mc_requests.specs.Errands as errands
+use Rattle.mc_requests.specs.Errands.{errand_text}
 use Rattle.mc_base.specs.declared.amount.TheConstants.Amount.{MOST}
 use Rattle.ledger_model.specs.Histories.{History}
 use Rattle.wallet_model.specs.Holdings as model

@@ -1,6 +1,6 @@
 -- What is told of a kept request and of a reply to it.
 use Rattle.std.specs.Prelude.{◌≡◌, ℕ, ◌≤◌, List, take, Option, Some, None, Result, Ok, Err}
-use Rattle.mc_records.specs.declared.refusal.Refusal.{Refusal}
+use Rattle.mc_requests.specs.declared.refusal.Refusal.{Refusal}
 use Rattle.wallet_model.specs.Requests.{Pending}
 use Rattle.wallet_model.specs.Asks.{request_bytes}
 use Rattle.millicent_http.specs.Received.{Received}

@@ -1,6 +1,6 @@
 -- Whether an entry fits the journal of a book.
 use Rattle.std.specs.Prelude.{◌≡◌, Result, Ok, Err}
-use Rattle.mc_records.specs.declared.refusal.Refusal.{Refusal}
+use Rattle.mc_requests.specs.declared.refusal.Refusal.{Refusal}
 use Rattle.mc_records.specs.Entry.{Entry}
 use Rattle.ledger_model.specs.Lines.{Stop, Refuse}
 

@@ -2,10 +2,10 @@
 use Rattle.std.specs.Prelude.{◌≡◌, ℕ, List, [], ◌∷◌, Result, Ok, Err}
 use Rattle.mc_outside.specs.Bytes.{BeginsWith}
 use Rattle.mc_outside.specs.DiskView.{DiskView}
-use Rattle.mc_records.specs.declared.limits.Limits.{Limits}
+use Rattle.mc_requests.specs.declared.limits.Limits.{Limits}
 use Rattle.mc_records.specs.Chains.{TellsChain}
 use Rattle.mc_records.specs.Entry.{Entry, moment_of}
-use Rattle.mc_records.specs.Limits.{AreInRange}
+use Rattle.mc_requests.specs.Limits.{AreInRange}
 use Rattle.ledger_model.specs.Histories.{History, time}
 use Rattle.scrip_journal.specs.Layout.{header, Encodes}
 use Rattle.scrip_journal.specs.Founds.{fault_disk, IsFree, IsTaken}

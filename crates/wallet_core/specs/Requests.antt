@@ -5,7 +5,7 @@ use Rattle.ledger_model.specs.Histories.{History}
 use Rattle.wallet_model.specs.Requests.{Pending}
 use Rattle.wallet_model.specs.Follows.{WalletFollows}
 use Rattle.mc_records.specs.Entry.{Fits}
-use Rattle.mc_records.specs.Requests.{seen}
+use Rattle.mc_requests.specs.Requests.{seen}
 use Rattle.wallet_core.specs.declared.request.WalletRequest.{WalletRequest}
 use Rattle.wallet_core.specs.declared.request.RequestRef.{RequestRef}
 

@@ -1,7 +1,7 @@
 -- The entry of pieces that a wallet takes.
 use Rattle.std.specs.Prelude.{◌≡◌, ℕ, ◌||◌, not, Bool, nat_lt, List, Option, Some, None, Result, Ok, Err, option_map, unwrap_or, find, count_by}
-use Rattle.mc_records.specs.declared.refusal.Refusal.{Refusal}
-use Rattle.mc_records.specs.declared.refusal.Refusal.TheVariants.{BadInput, TwiceHeld}
+use Rattle.mc_requests.specs.declared.refusal.Refusal.{Refusal}
+use Rattle.mc_requests.specs.declared.refusal.Refusal.TheVariants.{BadInput, TwiceHeld}
 use Rattle.mc_records.specs.Entry.{Held, Entry, Got, ArePieces}
 use Rattle.mc_records.specs.Pieces.{pieces_bytes}
 use Rattle.piece_lines.specs.declared.rule.PieceRule.TheVariants.{Any}

@@ -13,7 +13,7 @@ ghost use Rattle.wallet_core.specs.Requests.{pending_view, pend_of};
 use crate::ask::Ask;
 use crate::request::{WalletRequest, text_of};
 use mc_base::Amount;
-use mc_records::{Refusal, buy_target, draw_target};
+use mc_requests::{Refusal, buy_target, draw_target};
 use scrip_form::{Name, Target};
 use wallet_book::{Holding, WalletBook};
 

@@ -29,7 +29,8 @@ use crate::{
     request_with, take_pieces, taken_list,
 };
 use mc_outside::Disk;
-use mc_records::{Record, Refusal};
+use mc_records::Record;
+use mc_requests::Refusal;
 use reply_reader::ReplyRef;
 
 impl<D: Disk> Wallet<D> {

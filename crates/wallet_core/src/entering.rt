@@ -16,7 +16,8 @@ use crate::outcome::WalletOut;
 use crate::wallet::Wallet;
 use mc_base::NoMemory;
 use mc_outside::Disk;
-use mc_records::{Record, Refusal, grown_size};
+use mc_records::{Record, grown_size};
+use mc_requests::Refusal;
 use scrip_journal::{Receipt, StageFault};
 use wallet_book::WalletBook;
 

@@ -3,7 +3,7 @@
 ghost use Rattle.std.specs.Prelude.{◌≡◌, ◌+◌, ◌≤◌, [], List, ℕ, None, Some};
 ghost use Rattle.mc_outside.specs.DiskView.{Ran};
 ghost use Rattle.mc_records.specs.Entry.{Site};
-ghost use Rattle.mc_records.specs.Limits.{AreInRange};
+ghost use Rattle.mc_requests.specs.Limits.{AreInRange};
 ghost use Rattle.mc_records.specs.Sizes.{entry_size};
 ghost use Rattle.scrip_journal.specs.Exits.{IsUncut};
 ghost use Rattle.scrip_journal.specs.Founds.{FoundNoOutput, CountsBy, ReadsOnly};
@@ -13,7 +13,8 @@ ghost use Rattle.wallet_core.specs.Opening.{wallet_disk, FoundsWalletBy};
 use crate::wallet::Wallet;
 use mc_base::Moment;
 use mc_outside::Disk;
-use mc_records::{EMPTY_JOURNAL, Limits, Record};
+use mc_records::{EMPTY_JOURNAL, Record};
+use mc_requests::Limits;
 use scrip_form::Name;
 use scrip_journal::{HouseFault, found_book};
 use std::alloc::Global;

@@ -2,14 +2,15 @@
 
 ghost use Rattle.std.specs.Prelude.{◌≡◌, List, ℕ, IfOk, Some};
 ghost use Rattle.mc_outside.specs.DiskView.{OnlyRead};
-ghost use Rattle.mc_records.specs.Limits.{AreInRange};
+ghost use Rattle.mc_requests.specs.Limits.{AreInRange};
 ghost use Rattle.book_opening.specs.Opening.{CountedBy};
 ghost use Rattle.wallet_core.specs.Opening.{wallet_disk, OpensWallet};
 
 use crate::wallet::Wallet;
 use book_opening::{Opener, open_book};
 use mc_outside::Disk;
-use mc_records::{Limits, Record};
+use mc_records::Record;
+use mc_requests::Limits;
 use scrip_journal::{HouseFault, LearnFault};
 use std::alloc::Global;
 use wallet_book::WalletBook;

@@ -1,5 +1,5 @@
 use crate::wallet::Wallet;
-use mc_records::Refusal;
+use mc_requests::Refusal;
 use scrip_journal::Halted;
 
 /// What comes of a call of a wallet that may write an entry. Each but the last hands the wallet back.

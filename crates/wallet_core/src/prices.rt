@@ -2,7 +2,7 @@
 
 ghost use Rattle.std.specs.Prelude.{◌≡◌, ◌≤◌, codes, bytes_eq, IfSome};
 ghost use Rattle.mc_base.specs.declared.amount.TheConstants.Amount.{MOST};
-ghost use Rattle.mc_records.specs.Errands.{last_number};
+ghost use Rattle.mc_requests.specs.Errands.{last_number};
 ghost use Rattle.reply_reader.specs.Seen.{received_of};
 ghost use Rattle.wallet_model.specs.Settling as model;
 ghost use Rattle.wallet_core.specs.Came.{ReadsChange};

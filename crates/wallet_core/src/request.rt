@@ -3,7 +3,7 @@
 ghost use Rattle.std.specs.Prelude.{◌≡◌, ◌<◌, IfSome, option_map, option_and_then, slice_get};
 ghost use Rattle.scrip_form.specs.Scrip.{IsScripText};
 ghost use Rattle.mc_records.specs.Entry.{Fits};
-ghost use Rattle.mc_records.specs.Requests.{seen};
+ghost use Rattle.mc_requests.specs.Requests.{seen};
 ghost use Rattle.mc_records.specs.Views.{entry};
 ghost use Rattle.ledger_model.specs.Histories.{History};
 ghost use Rattle.wallet_book.specs.Book.{WalletRepresents};
@@ -94,7 +94,7 @@ pub fn pend_record<'a>(moment: Moment, p: &'a WalletRequest) -> Record<'a>
     ensures entry { entry result ≡ pend_of moment (pending_view p.now) }
     ensures fits { Fits (entry result) }
 {
-    let _pieces: Option<PieceList<'_>> = None;
+    let _parts: Option<PieceList<'_>> = None;
     let _seconds = moment.seconds();
     Record::Pend {
         moment,

@@ -3,7 +3,7 @@
 ghost use Rattle.std.specs.Prelude.{◌≡◌, ◌+◌, ◌≤◌, ◌++◌, length, take, codes};
 ghost use Rattle.hex.specs.Hex.{encode_lower};
 ghost use Rattle.scrip_certs.specs.Digests.{request_text};
-ghost use Rattle.mc_records.specs.Replies as texts;
+ghost use Rattle.mc_requests.specs.Replies as texts;
 ghost use Rattle.wallet_model.specs.Asks as model;
 ghost use Rattle.wallet_core.specs.Requests.{pending_view};
 

@@ -2,7 +2,7 @@
 
 ghost use Rattle.std.specs.Prelude.{◌≡◌, ◌++◌, Some, None, IfSome, option_map, option_to_list, unwrap_or};
 ghost use Rattle.mc_records.specs.PieceViews as views;
-ghost use Rattle.mc_records.specs.Requests.{seen};
+ghost use Rattle.mc_requests.specs.Requests.{seen};
 ghost use Rattle.mc_records.specs.Views.{entry, held_of};
 ghost use Rattle.ledger_model.specs.Histories.{History};
 ghost use Rattle.wallet_model.specs.Newness as newness;
@@ -71,7 +71,7 @@ pub(crate) fn settled_entry<'a>(
     ensures { entry result
         ≡ settlement_with (texts_of book.now.holdings) moment number (pending_view p.now) (received_of came.now.reply) }
 {
-    let _pieces: Option<PieceList<'_>> = None;
+    let _parts: Option<PieceList<'_>> = None;
     if came.reply.status != 200 {
         let refusal = refusal_number(came.reply.refusal);
         return Record::Refused {

@@ -12,7 +12,8 @@ use crate::entering::room_for;
 use crate::outcome::WalletOut;
 use crate::wallet::Wallet;
 use mc_outside::Disk;
-use mc_records::{Record, Refusal};
+use mc_records::Record;
+use mc_requests::Refusal;
 use scrip_journal::{Receipt, SWITCH_PAYLOAD, StageFault};
 
 impl<D: Disk> Wallet<D> {

@@ -14,7 +14,8 @@ ghost use Rattle.wallet_core.specs.Taking.{take_entry, id_of, Takes, TakesOf, Ar
 
 use crate::contents::is_one;
 use mc_base::List;
-use mc_records::{PieceList, Refusal};
+use mc_records::PieceList;
+use mc_requests::Refusal;
 use piece_lines::{PieceLinesFault, PieceRule, read_piece_lines};
 use scrip_form::{Id, ScripRef};
 use std::alloc::Global;

@@ -1,7 +1,7 @@
 //! A wallet over a journal.
 
 ghost use Rattle.std.specs.Prelude.{◌≡◌, max, map, option_map, IfErr};
-ghost use Rattle.mc_records.specs.declared.refusal.Refusal.TheVariants.{Nothing};
+ghost use Rattle.mc_requests.specs.declared.refusal.Refusal.TheVariants.{Nothing};
 ghost use Rattle.scrip_journal.specs.States.{IsJournal};
 ghost use Rattle.ledger_model.specs.Histories.{History};
 ghost use Rattle.ledger_model.specs.Houses.{site_name};
@@ -17,7 +17,7 @@ ghost use Rattle.wallet_core.specs.Gets.{FindsGet};
 
 use mc_base::{Amount, Moment};
 use mc_outside::Disk;
-use mc_records::{Limits, Refusal};
+use mc_requests::{Limits, Refusal};
 use scrip_form::{Name, Target};
 use scrip_journal::Journal;
 use std::alloc::Global;

@@ -8,8 +8,8 @@ use Rattle.mc_fields.proofs.NumberField.{number_whole, number_reads}
 use Rattle.scrip_form.specs.Scrip.{Scrip, IsScripText}
 use Rattle.scrip_form.specs.Reading.{scrip_of, is_scrip}
 use Rattle.scrip_form.proofs.TextTests.{scrip_decides}
-use Rattle.mc_records.specs.declared.refusal.Refusal.TheVariants.{BadReply, Unproved}
-use Rattle.mc_records.specs.Errands.{Errand, buy, pay_in, draw, errand_of}
+use Rattle.mc_requests.specs.declared.refusal.Refusal.TheVariants.{BadReply, Unproved}
+use Rattle.mc_requests.specs.Errands.{Errand, buy, pay_in, draw, errand_of}
 use Rattle.mc_records.specs.Entry.{Held, Entry, Pend, Done, Refused, IsMoment, IsLong, HeldFits, Fits}
 use Rattle.piece_lines.specs.declared.rule.PieceRule.TheVariants.{Any}
 use Rattle.piece_lines.specs.Rules.{passes}

@@ -10,8 +10,8 @@ use Rattle.mc_fields.specs.Texts.{is_text}
 use Rattle.scrip_form.specs.Scrip.{scrip_body, scrip_text, text_version}
 use Rattle.scrip_form.specs.Reading.{scrip_of, scrip_at, id_at}
 use Rattle.scrip_certs.specs.Digests.{digest, request_signature, reply_signature}
-use Rattle.mc_records.specs.declared.refusal.Refusal.TheVariants as refusals
-use Rattle.mc_records.specs.Errands.{errand_of}
+use Rattle.mc_requests.specs.declared.refusal.Refusal.TheVariants as refusals
+use Rattle.mc_requests.specs.Errands.{errand_of}
 use Rattle.mc_records.specs.Entry.{Held, Entry, Site, Got, Pend, Done, Refused}
 use Rattle.piece_lines.specs.PieceLines.{line_at, secret_at}
 use Rattle.ledger_model.specs.Histories.{History}

@@ -4,10 +4,10 @@ use Rattle.std.proofs.lemmas.Slice.Eq.{bytes_eq-Decides}
 use Rattle.std.specs.Prelude.{◌==◌, not, nat_lt, nat_le, option_to_list, filter_map, fold}
 use Rattle.std.specs.List.{AllByRecursion, list_any, enumerate_from, reduce, cons_option}
 use Rattle.scrip_form.specs.Scrip.{Scrip}
-use Rattle.mc_records.specs.declared.refusal.Refusal.{Refusal}
-use Rattle.mc_records.specs.Errands.{errand_of, errand_text}
-use Rattle.mc_records.specs.Errands as errands
-use Rattle.mc_records.proofs.ErrandLaws.{errand_read}
+use Rattle.mc_requests.specs.declared.refusal.Refusal.{Refusal}
+use Rattle.mc_requests.specs.Errands.{errand_of, errand_text}
+use Rattle.mc_requests.specs.Errands as errands
+use Rattle.mc_requests.proofs.ErrandLaws.{errand_read}
 use Rattle.mc_records.specs.Entry.{Held, Entry, Site, Pend, Done, Refused, Switch, moment_of}
 use Rattle.mc_records.specs.Chains.{chain, has_switch}
 use Rattle.ledger_model.specs.Histories.{History, time}

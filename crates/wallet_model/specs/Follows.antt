@@ -1,6 +1,6 @@
 -- Which books of wallets are lawful.
 use Rattle.std.specs.Prelude.{◌≡◌, ℕ, zero, suc, ◌≤◌, ◌==◌, ◌&&◌, Bool, true, false, not, IsTrue, List, [], ◌∷◌, ◌++◌, map, length, take, slice_get, MatchOption, Option, Some, None, option_map, option_to_list, unwrap_or, bytes_eq}
-use Rattle.mc_records.specs.Errands.{Errand, buy, draw, errand_of}
+use Rattle.mc_requests.specs.Errands.{Errand, buy, draw, errand_of}
 use Rattle.mc_records.specs.Entry.{Held, Entry, Site, Got, Pend, Done, Refused, Switch, Note, moment_of}
 use Rattle.mc_records.specs.Chains.{chain, has_switch}
 use Rattle.mc_records.specs.Following.{AllFollowBy}

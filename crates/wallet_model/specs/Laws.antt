@@ -1,8 +1,8 @@
 -- What the laws speak of.
 use Rattle.std.specs.Prelude.{ℕ, suc, Bool, true, false, unwrap_or, List, Option, Some, None, IsSome, bytes_eq}
 use Rattle.std.specs.List.{list_any}
-use Rattle.mc_records.specs.Errands as errands
-use Rattle.mc_records.specs.Errands.{IsErrand}
+use Rattle.mc_requests.specs.Errands as errands
+use Rattle.mc_requests.specs.Errands.{IsErrand}
 use Rattle.mc_records.specs.Entry.{Entry}
 use Rattle.ledger_model.specs.Histories.{History}
 use Rattle.ledger_model.specs.Pieces.{piece_of}

@@ -5,11 +5,11 @@ use Rattle.hex.specs.Hex.{encode_lower}
 use Rattle.mc_fields.specs.Reading.{number_at}
 use Rattle.scrip_form.specs.Scrip.{Scrip}
 use Rattle.scrip_certs.specs.Digests.{reply_signature}
-use Rattle.mc_records.specs.declared.refusal.Refusal.{Refusal}
-use Rattle.mc_records.specs.declared.refusal.Refusal.TheVariants.{BadReply, Unproved}
+use Rattle.mc_requests.specs.declared.refusal.Refusal.{Refusal}
+use Rattle.mc_requests.specs.declared.refusal.Refusal.TheVariants.{BadReply, Unproved}
 use Rattle.mc_base.specs.declared.amount.TheConstants.Amount.{MOST}
-use Rattle.mc_records.specs.Errands.{Errand, buy, draw, errand_of}
-use Rattle.mc_records.specs.Replies.{or_dash}
+use Rattle.mc_requests.specs.Errands.{Errand, buy, draw, errand_of}
+use Rattle.mc_requests.specs.Replies.{or_dash}
 use Rattle.mc_records.specs.Entry.{Held, Entry, Done, Refused}
 use Rattle.piece_lines.specs.declared.rule.PieceRule.TheVariants.{Any}
 use Rattle.piece_lines.specs.Rules.{passes}

@@ -2,11 +2,11 @@
 use Rattle.std.proofs.Common.{◌≡◌, ◌⊎◌, inl, inr, ℕ, ◌+◌, Bool, true, false, cond, List, [], ◌∷◌, ◌++◌, length, refl, sym, ap, subst, ◌∙◌, Option, Some, None, unwrap_or, Result, Ok, Err, find}
 use Rattle.std.specs.Prelude.{◌==◌, ◌&&◌, nat_le, IsTrue, bytes_eq}
 use Rattle.std.proofs.lemmas.Slice.Eq.{bytes_eq-Decides}
-use Rattle.mc_records.specs.declared.limits.Limits.{Limits}
-use Rattle.mc_records.specs.declared.refusal.Refusal.{Refusal}
-use Rattle.mc_records.specs.declared.refusal.Refusal.TheVariants.{NotPlain, OverBudget, NoFunds, NoMemory, SiteRefused, JournalFull}
+use Rattle.mc_requests.specs.declared.limits.Limits.{Limits}
+use Rattle.mc_requests.specs.declared.refusal.Refusal.{Refusal}
+use Rattle.mc_requests.specs.declared.refusal.Refusal.TheVariants.{NotPlain, OverBudget, NoFunds, NoMemory, SiteRefused, JournalFull}
 use Rattle.mc_records.specs.Entry.{Entry}
-use Rattle.mc_records.specs.Requests.{Asked}
+use Rattle.mc_requests.specs.Requests.{Asked}
 use Rattle.ledger_model.specs.Histories.{History}
 use Rattle.ledger_model.specs.Lines.{Refuse, refused_if, ◌>>=◌}
 use Rattle.millicent_http.specs.Items.{request}

@@ -24,7 +24,7 @@ use Rattle.link_turns.proofs.OrderLemmas.{went_sent, went_written, went_from, ha
 use Rattle.wallet_proxy.specs.Told.{Told, refusal, told_reply}
 use Rattle.wallet_proxy.specs.Proxy.{ProxyState, history_of}
 use Rattle.wallet_proxy.specs.Links.{Now, now, out_of, StandsAt, Answers}
-use Rattle.mc_records.specs.declared.refusal.Refusal.TheVariants.{DiskFault}
+use Rattle.mc_requests.specs.declared.refusal.Refusal.TheVariants.{DiskFault}
 
 module _ {O : Type 0} (link : O → LinkView) (disk : O → DiskView) (all : TellsAside link (λ o. (disk o).aside)) (budget : ℕ) where
   pub state_leaves : (x : Now O) (s : ProxyState) → StandsAt disk budget x s → (c : List ℕ) → (disk (out_of x)).leaves c → Encodes (history_of s) c

@@ -2,8 +2,8 @@
 use Rattle.std.proofs.Common.{◌≡◌, inl, inr, ℕ, ◌+◌, ◌≤◌, Bool, true, false, cond, List, [], ◌∷◌, ◌++◌, length, count_by, refl, sym, ap, ◌∙◌, append_assoc, append-nil, arith, Option, Some, None, unwrap_or, Result, Ok, Err}
 use Rattle.std.specs.Prelude.{◌==◌, ◌||◌, IsTrue}
 use Rattle.std.proofs.lemmas.List.{length-append}
-use Rattle.mc_records.specs.declared.limits.Limits.{Limits}
-use Rattle.mc_records.specs.declared.refusal.Refusal.{Refusal}
+use Rattle.mc_requests.specs.declared.limits.Limits.{Limits}
+use Rattle.mc_requests.specs.declared.refusal.Refusal.{Refusal}
 use Rattle.mc_records.specs.Entry.{Entry, Done, Refused}
 use Rattle.ledger_model.specs.Histories.{History}
 use Rattle.ledger_model.proofs.ListLaws.{counts_cons, counts_append, sum_snoc}

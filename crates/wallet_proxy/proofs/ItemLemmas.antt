@@ -2,10 +2,10 @@
 use Rattle.std.proofs.Common.{◌≡◌, ◌∙◌, ℕ, ◌≤◌, Bool, true, false, List, [], ◌∷◌, max, refl, sym, ap, subst, Option, Result, Ok, Err}
 use Rattle.mc_outside.specs.DiskView.{DiskView, LinkKeeps}
 use Rattle.mc_outside.specs.LinkView.{LinkView, LinkGoes, after_recv}
-use Rattle.mc_records.specs.declared.refusal.Refusal.{Refusal}
-use Rattle.mc_records.specs.declared.refusal.Refusal.TheVariants.{NotPlain, DiskFault}
-use Rattle.mc_records.specs.declared.request.Request.{Request}
-use Rattle.mc_records.specs.Requests.{Asked, asked_of}
+use Rattle.mc_requests.specs.declared.refusal.Refusal.{Refusal}
+use Rattle.mc_requests.specs.declared.refusal.Refusal.TheVariants.{NotPlain, DiskFault}
+use Rattle.mc_requests.specs.declared.request.Request.{Request}
+use Rattle.mc_requests.specs.Requests.{Asked, asked_of}
 use Rattle.ledger_model.specs.Histories.{History}
 use Rattle.millicent_http.proofs.AsideLemmas.{TellsAside, SentNoMore, no_more_still, no_more_then, no_more_heard, no_more_finished}
 use Rattle.millicent_http.specs.declared.item.After.{After}

@@ -1,7 +1,7 @@
 -- What the steps of a proxy promise, in its user's words.
 use Rattle.std.specs.Prelude.{◌≡◌, ◌⊎◌, ◌≤◌, ℕ, ◌+◌, ◌==◌, ◌||◌, Bool, true, false, IsTrue, List, [], ◌∷◌, ◌++◌, length, sum_by, count_by, Some, None, Result}
-use Rattle.mc_records.specs.declared.refusal.Refusal.{Refusal}
-use Rattle.mc_records.specs.declared.refusal.Refusal.TheVariants.{NoLink, NoReply, BadReply, Unproved, UpstreamFault}
+use Rattle.mc_requests.specs.declared.refusal.Refusal.{Refusal}
+use Rattle.mc_requests.specs.declared.refusal.Refusal.TheVariants.{NoLink, NoReply, BadReply, Unproved, UpstreamFault}
 use Rattle.mc_records.specs.Entry.{Entry, Pend, Done, Refused}
 use Rattle.ledger_model.specs.Histories.{History}
 use Rattle.millicent_http.specs.Received.{Received}

@@ -3,7 +3,7 @@ use Rattle.std.specs.Prelude.{◌≡◌, ◌⊎◌, ℕ, ◌<◌, ◌≤◌, IsT
 use Rattle.mc_outside.specs.Bytes.{Rose}
 use Rattle.mc_outside.specs.DiskView.{DiskView, Ran}
 use Rattle.mc_outside.specs.LinkView.{LinkView}
-use Rattle.mc_records.specs.declared.refusal.Refusal.TheVariants as refusals
+use Rattle.mc_requests.specs.declared.refusal.Refusal.TheVariants as refusals
 use Rattle.mc_records.specs.Entry.{Entry}
 use Rattle.ledger_model.specs.Histories.{time}
 use Rattle.scrip_journal.specs.Layout.{Encodes}

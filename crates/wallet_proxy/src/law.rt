@@ -1,8 +1,8 @@
 //! Laws over the steps of a proxy, each on a function that does nothing.
 
 ghost use Rattle.std.specs.Prelude.{◌≡◌, ◌≤◌, ℕ, Bool, List, Some, length};
-ghost use Rattle.mc_records.specs.declared.refusal.Refusal.{Refusal};
-ghost use Rattle.mc_records.specs.Requests.{Asked};
+ghost use Rattle.mc_requests.specs.declared.refusal.Refusal.{Refusal};
+ghost use Rattle.mc_requests.specs.Requests.{Asked};
 ghost use Rattle.millicent_http.specs.Items.{Item, request};
 ghost use Rattle.millicent_http.specs.Steps.{Did, Run, state_after};
 ghost use Rattle.wallet_model.specs.Requests.{Pending, kept_get};

@@ -2,7 +2,7 @@
 
 ghost use Rattle.std.specs.Prelude.{◌≡◌, ◌≤◌, ◌+◌, ℕ, Some, unwrap_or, option_map, slice_get, IsTrue, IfOk, nat_le, Ok, Err, if◌then◌else◌};
 ghost use Rattle.mc_base.specs.declared.amount.TheConstants.Amount.{MOST};
-ghost use Rattle.mc_records.specs.declared.refusal.Refusal.TheVariants.{OverBudget};
+ghost use Rattle.mc_requests.specs.declared.refusal.Refusal.TheVariants.{OverBudget};
 ghost use Rattle.millicent_http.specs.declared.item.After.TheVariants.{Close};
 ghost use Rattle.ledger_model.specs.Histories.{History};
 ghost use Rattle.wallet_model.specs.Requests.{Pending, kept_get};
@@ -21,7 +21,7 @@ use crate::told::{refuse, tell_disk_fault};
 use crate::upstream::{lost, send_request};
 use link_turns::{Page, Turn};
 use mc_outside::{Disk, Link, Outside};
-use mc_records::Refusal;
+use mc_requests::Refusal;
 use millicent_http::After;
 use reply_reader::ReplyReader;
 use scrip_form::Target;

@@ -1,7 +1,7 @@
 //! Serving links by the wallet of a book.
 
 ghost use Rattle.std.specs.Prelude.{◌≡◌, List, ℕ, Some};
-ghost use Rattle.mc_records.specs.declared.limits.TheConstants.Limits.{FULL};
+ghost use Rattle.mc_requests.specs.declared.limits.TheConstants.Limits.{FULL};
 ghost use Rattle.command_status.specs.Statuses.{number_of};
 ghost use Rattle.wallet_proxy.specs.Links.{proxied_outside};
 ghost use Rattle.wallet_proxy.specs.Proxying.{proxied_status, ProxiesBook, ProxyCauses};
@@ -10,7 +10,7 @@ use crate::{ProxyOut, proxy_links};
 use command_status::{Status, not_opened};
 use mc_base::Amount;
 use mc_outside::{Link, Outside};
-use mc_records::Limits;
+use mc_requests::Limits;
 use scrip_form::Name;
 use std::alloc::Global;
 use wallet_core::open_wallet;

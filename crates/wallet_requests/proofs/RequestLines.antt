@@ -3,7 +3,7 @@ use Rattle.std.proofs.Common.{◌≡◌, ℕ, List, [], ◌∷◌, ◌++◌, ◌
 use Rattle.std.specs.Prelude.{codes}
 use Rattle.hex.specs.Hex.{encode_lower}
 use Rattle.httparse.specs.Grammar.{RequestHead, crlf}
-use Rattle.mc_records.specs.Replies.{field, field_if}
+use Rattle.mc_requests.specs.Replies.{field, field_if}
 use Rattle.wallet_model.specs.Requests.{Pending}
 use Rattle.wallet_model.specs.Asks.{request_bytes, signature_of}
 use Rattle.reply_reader.proofs.HeadLines.{print_lines, clean_field, field_line, with_field}

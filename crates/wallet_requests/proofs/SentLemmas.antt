@@ -10,7 +10,7 @@ use Rattle.scrip_form.specs.Scrip.{IsScripText, text_version}
 use Rattle.scrip_form.specs.Texts.{is_target}
 use Rattle.scrip_form.proofs.TextTests.{target_decides, scrip_is_short}
 use Rattle.scrip_certs.specs.Digests.{line, request_text, request_signature}
-use Rattle.mc_records.specs.Replies.{or_dash}
+use Rattle.mc_requests.specs.Replies.{or_dash}
 use Rattle.mc_records.specs.Entry.{Entry, Pend, Fits}
 use Rattle.ledger_model.specs.Histories.{History}
 use Rattle.millicent_http.specs.Fields.{is_host, values, same_name, says_body, says_close, has_close}

@@ -4,12 +4,12 @@ use Rattle.std.specs.Prelude.{max, if◌then◌else◌}
 use Rattle.std.proofs.lemmas.Bool.{le-ltb}
 use Rattle.mc_outside.specs.DiskView.{DiskView}
 use Rattle.mc_outside.specs.LinkView.{LinkView, Session, next_taken, after_recv, after_send}
-use Rattle.mc_records.specs.declared.limits.TheConstants.Limits.{FULL, MOST_JOURNAL}
-use Rattle.mc_records.specs.declared.refusal.Refusal.{Refusal}
-use Rattle.mc_records.specs.declared.refusal.Refusal.TheVariants.{JournalFull}
+use Rattle.mc_requests.specs.declared.limits.TheConstants.Limits.{FULL, MOST_JOURNAL}
+use Rattle.mc_requests.specs.declared.refusal.Refusal.{Refusal}
+use Rattle.mc_requests.specs.declared.refusal.Refusal.TheVariants.{JournalFull}
 use Rattle.mc_records.specs.Entry.{Entry, Pend, moment_of, payload}
-use Rattle.mc_records.specs.Errands as errands
-use Rattle.mc_records.specs.Errands.{errand_text}
+use Rattle.mc_requests.specs.Errands as errands
+use Rattle.mc_requests.specs.Errands.{errand_text}
 use Rattle.mc_records.specs.Sizes.{size, entry_size}
 use Rattle.ledger_model.specs.Histories.{History, time}
 use Rattle.ledger_model.specs.Lines.{Refuse, ◌>>=◌, refused_if}

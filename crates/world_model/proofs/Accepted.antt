@@ -15,10 +15,10 @@ use Rattle.scrip_form.specs.Reading.{scrip_of, is_scrip, scrip_at}
 use Rattle.scrip_form.proofs.TextTests.{scrip_decides}
 use Rattle.scrip_form.proofs.Laws.{scrip_reads}
 use Rattle.scrip_certs.specs.Digests.{customer_secret, request_signature}
-use Rattle.mc_records.specs.declared.limits.Limits.{Limits}
-use Rattle.mc_records.specs.declared.refusal.Refusal.TheVariants.{WrongVendor, UnknownIssuer, BadCertificate}
+use Rattle.mc_requests.specs.declared.limits.Limits.{Limits}
+use Rattle.mc_requests.specs.declared.refusal.Refusal.TheVariants.{WrongVendor, UnknownIssuer, BadCertificate}
 use Rattle.mc_records.specs.Entry.{Deed, Entry, Site, Accept, Draw}
-use Rattle.mc_records.specs.Requests.{Asked}
+use Rattle.mc_requests.specs.Requests.{Asked}
 use Rattle.ledger_model.specs.Histories.{History}
 use Rattle.ledger_model.specs.Houses.{site_name, is_clear, all_terms, terms_by, version, secret_of}
 use Rattle.ledger_model.specs.Pieces.{piece_of, accepted_piece, accepted, is_spent}

@@ -13,13 +13,13 @@ use Rattle.scrip_form.specs.Scrip.{Scrip, IsCert, IsTextOf, IsScripText}
 use Rattle.scrip_certs.specs.Digests.{customer_secret, request_signature}
 use Rattle.mc_fields.specs.Texts.{IsNumber}
 use Rattle.mc_base.specs.declared.amount.TheConstants.Amount.{MOST}
-use Rattle.mc_records.specs.declared.limits.Limits.{Limits}
-use Rattle.mc_records.specs.Errands as errands
-use Rattle.mc_records.specs.Errands.{Errand, errand_of}
-use Rattle.mc_records.proofs.ErrandLaws.{errand_told}
+use Rattle.mc_requests.specs.declared.limits.Limits.{Limits}
+use Rattle.mc_requests.specs.Errands as errands
+use Rattle.mc_requests.specs.Errands.{Errand, errand_of}
+use Rattle.mc_requests.proofs.ErrandLaws.{errand_told}
 use Rattle.mc_records.specs.PieceLine.{piece_line}
 use Rattle.mc_records.specs.Entry.{Held, Entry, Draw, Fits}
-use Rattle.mc_records.specs.Replies.{or_dash}
+use Rattle.mc_requests.specs.Replies.{or_dash}
 use Rattle.piece_lines.specs.declared.rule.PieceRule.TheVariants.{Any}
 use Rattle.piece_lines.specs.Rules as rules
 use Rattle.piece_lines.specs.PieceLines.{LineFits, AreLines}

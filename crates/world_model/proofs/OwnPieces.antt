@@ -11,7 +11,7 @@ use Rattle.scrip_form.specs.Texts.{IsName, IsProps}
 use Rattle.scrip_form.specs.Scrip.{Scrip, IsVersion, IsCert, IsTextOf, scrip_body, text_version}
 use Rattle.scrip_certs.specs.Digests.{digest, certificate}
 use Rattle.scrip_certs.proofs.DigestLaws.{length-digest, digest_below}
-use Rattle.mc_records.specs.declared.limits.Limits.{Limits}
+use Rattle.mc_requests.specs.declared.limits.Limits.{Limits}
 use Rattle.mc_records.specs.Entry.{House, Entry, Site, AreTerms, SiteFits, Fits}
 use Rattle.ledger_model.specs.Histories.{History}
 use Rattle.ledger_model.specs.declared.upgraded.Upgraded.{Upgraded}

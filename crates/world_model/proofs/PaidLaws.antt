@@ -3,9 +3,9 @@ use Rattle.std.proofs.Common.{◌≡◌, ℕ, List, take, Option, Some, sym, ap,
 use Rattle.std.specs.Prelude.{option_and_then, IfSome}
 use Rattle.std.specs.List.{AllByRecursion}
 use Rattle.scrip_form.specs.Scrip.{IsScripText}
-use Rattle.mc_records.specs.declared.limits.Limits.{Limits}
+use Rattle.mc_requests.specs.declared.limits.Limits.{Limits}
 use Rattle.mc_records.specs.Entry.{Held, Deed, Entry, Accept, Fits}
-use Rattle.mc_records.specs.Replies.{or_dash}
+use Rattle.mc_requests.specs.Replies.{or_dash}
 use Rattle.ledger_model.specs.Histories.{History}
 use Rattle.ledger_model.specs.Pieces.{change_piece}
 use Rattle.ledger_model.specs.Lawful.{IsLawful}

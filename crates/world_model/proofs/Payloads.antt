@@ -11,8 +11,8 @@ use Rattle.scrip_form.specs.Issuing.{Issuing, series_at}
 use Rattle.scrip_form.specs.Scrip.{Scrip, IsPiece, text_version}
 use Rattle.scrip_form.specs.Reading.{scrip_of}
 use Rattle.scrip_certs.specs.Digests.{line, request_text, request_signature}
-use Rattle.mc_records.specs.declared.limits.Limits.{Limits}
-use Rattle.mc_records.specs.Requests.{Asked}
+use Rattle.mc_requests.specs.declared.limits.Limits.{Limits}
+use Rattle.mc_requests.specs.Requests.{Asked}
 use Rattle.mc_records.specs.Entry.{Held, Deed, goods_deed, sale, credit, DeedFits, Entry, Accept, Draw, Licence, IsKey, IsLong, AreTerms, Fits}
 use Rattle.ledger_model.specs.Histories.{History}
 use Rattle.ledger_model.specs.Houses.{own_series}

@@ -14,14 +14,14 @@ use Rattle.scrip_form.specs.Scrip.{Scrip, IsPiece, IsTextOf, IsScripText, text_v
 use Rattle.scrip_form.proofs.TextTests.{scrip_is_short}
 use Rattle.scrip_certs.specs.Digests.{line, request_text, reply_signature}
 use Rattle.scrip_certs.proofs.DigestLaws.{length-digest, digest_below}
-use Rattle.mc_records.specs.declared.limits.Limits.{Limits}
+use Rattle.mc_requests.specs.declared.limits.Limits.{Limits}
 use Rattle.mc_records.specs.declared.ranges.TheConstants.{MOST_CONTENTS}
-use Rattle.mc_records.specs.Dates.{parts_of, date_of}
-use Rattle.mc_records.specs.Errands as errands
-use Rattle.mc_records.specs.Errands.{Errand, errand_of}
-use Rattle.mc_records.specs.Requests.{Asked}
+use Rattle.mc_requests.specs.Dates.{parts_of, date_of}
+use Rattle.mc_requests.specs.Errands as errands
+use Rattle.mc_requests.specs.Errands.{Errand, errand_of}
+use Rattle.mc_requests.specs.Requests.{Asked}
 use Rattle.mc_records.specs.Entry.{Held, Deed, goods_deed, sale, credit, Entry, Goods, Accept, Draw, Fits}
-use Rattle.mc_records.specs.Replies.{Reply, or_dash, media_type, reply_head, reply_text}
+use Rattle.mc_requests.specs.Replies.{Reply, or_dash, media_type, reply_head, reply_text}
 use Rattle.ledger_model.specs.Histories.{History}
 use Rattle.ledger_model.specs.Houses.{site_name, upgrades_of}
 use Rattle.ledger_model.specs.Goods.{is_goods_of, goods_in, goods_contents}

@@ -16,8 +16,8 @@ use Rattle.scrip_form.specs.Scrip.{IsScripText}
 use Rattle.ledger_model.specs.Pieces.{piece_of}
 use Rattle.wallet_model.specs.Laws.{HasItsPiece}
 use Rattle.reply_reader.proofs.ScripLemmas.{scrip_visible}
-use Rattle.mc_records.specs.declared.refusal.Refusal.TheVariants.{BadReply, Unproved}
-use Rattle.mc_records.specs.Replies.{or_dash, reply_text}
+use Rattle.mc_requests.specs.declared.refusal.Refusal.TheVariants.{BadReply, Unproved}
+use Rattle.mc_requests.specs.Replies.{or_dash, reply_text}
 use Rattle.ledger_model.specs.Replies.{Contents, taken_values}
 use Rattle.millicent_http.specs.Fields.{values}
 use Rattle.millicent_http.specs.Decimals.{decimal_of}

@@ -18,11 +18,11 @@ use Rattle.scrip_form.proofs.TextTests.{scrip_is_short}
 use Rattle.scrip_certs.specs.Digests.{certificate, customer_secret}
 use Rattle.mc_fields.specs.Texts.{IsNumber}
 use Rattle.mc_base.specs.declared.amount.TheConstants.Amount.{MOST}
-use Rattle.mc_records.specs.declared.limits.Limits.{Limits}
+use Rattle.mc_requests.specs.declared.limits.Limits.{Limits}
 use Rattle.mc_records.specs.declared.ranges.TheConstants.{MOST_CONTENTS}
-use Rattle.mc_records.specs.Errands as errands
-use Rattle.mc_records.specs.Errands.{Errand, errand_of}
-use Rattle.mc_records.proofs.ErrandLaws.{errand_told}
+use Rattle.mc_requests.specs.Errands as errands
+use Rattle.mc_requests.specs.Errands.{Errand, errand_of}
+use Rattle.mc_requests.proofs.ErrandLaws.{errand_told}
 use Rattle.mc_records.specs.PieceLine.{piece_line}
 use Rattle.mc_records.specs.Entry.{Held, HeldFits, sale, Entry, Accept, Stock, Fits}
 use Rattle.ledger_model.specs.Histories.{History}

@@ -5,8 +5,8 @@ use Rattle.std.specs.List.{AllByRecursion, list_any}
 use Rattle.httparse.specs.Spans.{name_and_value}
 use Rattle.scrip_form.specs.Texts.{IsTarget, is_target}
 use Rattle.scrip_form.proofs.TextTests.{target_decides}
-use Rattle.mc_records.specs.Requests.{Asked}
-use Rattle.mc_records.specs.declared.refusal.Refusal.TheVariants.{NoHost, BodyRefused, BadTarget, BadMethod, RepeatedField}
+use Rattle.mc_requests.specs.Requests.{Asked}
+use Rattle.mc_requests.specs.declared.refusal.Refusal.TheVariants.{NoHost, BodyRefused, BadTarget, BadMethod, RepeatedField}
 use Rattle.millicent_http.specs.Fields.{values, host_is_fit, says_body, says_close, at_most_one, first_of}
 use Rattle.millicent_http.specs.Items.{Item, request, refused, closes, judged, ReadsItem, NextItem, AreItems, Heads}
 use Rattle.millicent_http.specs.declared.reader.TheConstants.{MAX_ITEMS}

@@ -1,6 +1,6 @@
 -- What holds after every schedule.
 use Rattle.std.proofs.Common.{List, [], refl}
-use Rattle.mc_records.specs.declared.limits.Limits.{Limits}
+use Rattle.mc_requests.specs.declared.limits.Limits.{Limits}
 use Rattle.ledger_model.specs.Lawful.{IsLawful}
 use Rattle.ledger_model.proofs.AcceptLaws.{accepted_once}
 use Rattle.ledger_model.proofs.FollowLaws.{longer_lawful}

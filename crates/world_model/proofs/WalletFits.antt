@@ -5,13 +5,13 @@ use Rattle.std.specs.List.{AllByRecursion, enumerate_from, cons_option}
 use Rattle.std.proofs.lemmas.Option.{option_and_then_some}
 use Rattle.scrip_form.specs.Texts.{IsName, IsTarget}
 use Rattle.scrip_form.specs.Scrip.{Scrip, IsScripText}
-use Rattle.mc_records.specs.declared.limits.Limits.{Limits}
-use Rattle.mc_records.specs.declared.limits.TheConstants.Limits.{MOST_JOURNAL}
-use Rattle.mc_records.specs.declared.refusal.Refusal.{Refusal}
-use Rattle.mc_records.specs.declared.refusal.Refusal.TheVariants.{BadReply, Unproved}
-use Rattle.mc_records.specs.Errands as errands
-use Rattle.mc_records.specs.Errands.{errand_text}
-use Rattle.mc_records.proofs.TargetLaws.{errand_is_target}
+use Rattle.mc_requests.specs.declared.limits.Limits.{Limits}
+use Rattle.mc_requests.specs.declared.limits.TheConstants.Limits.{MOST_JOURNAL}
+use Rattle.mc_requests.specs.declared.refusal.Refusal.{Refusal}
+use Rattle.mc_requests.specs.declared.refusal.Refusal.TheVariants.{BadReply, Unproved}
+use Rattle.mc_requests.specs.Errands as errands
+use Rattle.mc_requests.specs.Errands.{errand_text}
+use Rattle.mc_requests.proofs.TargetLaws.{errand_is_target}
 use Rattle.mc_records.specs.Entry.{Held, HeldFits, Entry, Site, Got, Pend, Done, IsKey, Fits, moment_of}
 use Rattle.mc_records.specs.Following.{AllFollowBy}
 use Rattle.mc_records.specs.Sizes.{size_from}

@@ -1,7 +1,7 @@
 -- That books stay lawful and balanced, after every schedule.
 use Rattle.std.specs.Prelude.{◌≡◌, ℕ, ◌+◌, ◌≤◌, IsTrue, not, ◌&&◌, nat_lt, nat_le, List, [], ◌∷◌, ◌++◌, filter, Some, slice_get, bytes_eq}
 use Rattle.std.specs.List.{list_any, AllByRecursion}
-use Rattle.mc_records.specs.declared.limits.Limits.{Limits}
+use Rattle.mc_requests.specs.declared.limits.Limits.{Limits}
 use Rattle.scrip_form.specs.Scrip.{Scrip}
 use Rattle.mc_records.specs.Entry.{Entry}
 use Rattle.ledger_model.specs.declared.numbers.TheConstants.{VENDOR_KIND, BROKER_KIND}

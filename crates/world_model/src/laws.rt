@@ -1,7 +1,7 @@
 //! Laws over schedules, each on a function that does nothing.
 
 ghost use Rattle.std.specs.Prelude.{List};
-ghost use Rattle.mc_records.specs.declared.limits.Limits.{Limits as Bounds};
+ghost use Rattle.mc_requests.specs.declared.limits.Limits.{Limits as Bounds};
 ghost use Rattle.world_model.specs.Worlds.{World, Event, Plays, AbsentDoesNothing};
 ghost use Rattle.world_model.specs.Signings.{IsSound};
 ghost use Rattle.world_model.specs.Agreement.{IsSetup, DoneIsAccepted, AcceptedOnce, DoneOnce, DoneIsDrawn, PiecesOnce, AcceptedIsAsked, RepeatSettles};

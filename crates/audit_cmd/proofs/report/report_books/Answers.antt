@@ -1,4 +1,4 @@
-use Rattle.mc_records.specs.declared.limits.TheConstants.Limits.{FULL}
+use Rattle.mc_requests.specs.declared.limits.TheConstants.Limits.{FULL}
 use Rattle.audit_search.specs.Audit.{Audited}
 use Rattle.audit_cmd.specs.Reports.{report_lines}
 use Rattle.audit_cmd.proofs.ReportLaws.{found_words, found_causes, found_reports, found_ends}

@@ -1,4 +1,4 @@
-use Rattle.mc_records.specs.declared.limits.TheConstants.Limits.{FULL}
+use Rattle.mc_requests.specs.declared.limits.TheConstants.Limits.{FULL}
 use Rattle.audit_cmd.specs.Audit.{TreeAudited}
 use Rattle.relay_core.specs.Text.{tree_text}
 use Rattle.audit_cmd.proofs.ReportLaws.{found_words, found_causes, found_reports, found_ends}

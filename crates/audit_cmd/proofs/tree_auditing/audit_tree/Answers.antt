@@ -1,6 +1,6 @@
 use Rattle.std.proofs.Common.{List, subst}
 use Rattle.std.specs.Prelude.{length}
-use Rattle.mc_records.specs.declared.limits.TheConstants.Limits.{FULL}
+use Rattle.mc_requests.specs.declared.limits.TheConstants.Limits.{FULL}
 use Rattle.relay_core.specs.declared.tree.Tree.{Tree}
 use Rattle.audit_cmd.specs.Audit.{TreeAudited}
 use Rattle.audit_cmd.specs.Books.{IsLawfulBook, AreTold, decided_by}

@@ -1,6 +1,6 @@
 use Rattle.std.proofs.Common.{◌<◌, List, Err, sym, subst, arith}
 use Rattle.std.specs.Prelude.{IfSome, length}
-use Rattle.mc_records.specs.declared.limits.TheConstants.Limits.{FULL}
+use Rattle.mc_requests.specs.declared.limits.TheConstants.Limits.{FULL}
 use Rattle.audit_sums.specs.declared.audit_sums.BookSums.{BookSums}
 use Rattle.audit_search.specs.Audit.{AreLearned, NamesBook}
 use Rattle.relay_core.specs.declared.tree.Tree.{Tree}

@@ -1,5 +1,5 @@
 use Rattle.std.proofs.Common.{List, ℕ, sym}
-use Rattle.mc_records.specs.declared.refusal.Refusal.TheVariants.{NoAccount}
+use Rattle.mc_requests.specs.declared.refusal.Refusal.TheVariants.{NoAccount}
 use Rattle.house_core.specs.Bench.{house_time}
 use Rattle.broker_core.specs.Desk.{desk_view}
 use Rattle.operator_command.proofs.CommandLemmas.{performs_refused}

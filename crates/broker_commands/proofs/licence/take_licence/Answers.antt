@@ -1,5 +1,5 @@
 use Rattle.std.proofs.Common.{◌++◌, List, [], ℕ, Ok, Err, ap, ap₂, ◌∙◌, ◌∷◌, refl}
-use Rattle.mc_records.specs.declared.refusal.Refusal.TheVariants.{BadInput}
+use Rattle.mc_requests.specs.declared.refusal.Refusal.TheVariants.{BadInput}
 use Rattle.house_core.specs.Bench.{house_time}
 use Rattle.house_core.specs.Tasks.{Refuse, TellsAdded}
 use Rattle.broker_core.specs.Desk.{desk_view}

@@ -1,4 +1,4 @@
-use Rattle.mc_records.specs.Errands.{pay_in}
+use Rattle.mc_requests.specs.Errands.{pay_in}
 use Rattle.broker_ledger.proofs.LearnLaws.{errand_is}
 use Rattle.broker_core.proofs.desk.credited.Goals as goal
 

@@ -1,7 +1,7 @@
 use Rattle.std.proofs.Common.{◌≡◌, Some, refl, [], ◌∷◌}
 use Rattle.std.specs.Prelude.{◌==◌}
 use Rattle.std.proofs.lemmas.Bool.{or_right}
-use Rattle.mc_records.specs.Refusals.{number_of}
+use Rattle.mc_requests.specs.Refusals.{number_of}
 use Rattle.mc_records.specs.Views.{entry}
 use Rattle.broker_ledger.specs.Tasks.{task_of}
 use Rattle.house_state.proofs.PartLaws.{every_passes}

@@ -1,6 +1,6 @@
 use Rattle.std.proofs.Common.{ℕ, Some, None, ap, ◌∙◌, arith}
 use Rattle.std.proofs.lemmas.List.{length-take}
-use Rattle.mc_records.specs.declared.refusal.Refusal.TheVariants.{StockTwice}
+use Rattle.mc_requests.specs.declared.refusal.Refusal.TheVariants.{StockTwice}
 use Rattle.broker_stalls.specs.Vendors.{found_stall}
 use Rattle.broker_core.proofs.StockLemmas.{refusal_is}
 use Rattle.broker_core.proofs.stock.refusal_of.Goals as goal

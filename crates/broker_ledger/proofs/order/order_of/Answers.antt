@@ -1,4 +1,4 @@
-use Rattle.mc_records.specs.Errands.{draw}
+use Rattle.mc_requests.specs.Errands.{draw}
 use Rattle.broker_ledger.proofs.LearnLaws.{errand_is}
 use Rattle.broker_ledger.proofs.order.order_of.Goals as goal
 

@@ -1,4 +1,4 @@
-use Rattle.mc_records.specs.Errands.{buy}
+use Rattle.mc_requests.specs.Errands.{buy}
 use Rattle.std.proofs.Common.{arith}
 use Rattle.broker_stalls.proofs.VendorLaws.{errand_is, amount_is}
 use Rattle.broker_stalls.proofs.target.bought.Goals as goal

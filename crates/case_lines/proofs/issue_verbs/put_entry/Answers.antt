@@ -1,5 +1,5 @@
 use Rattle.std.proofs.Common.{◌≡◌, sym, ◌∙◌}
-use Rattle.mc_records.specs.Requests.{asked_of}
+use Rattle.mc_requests.specs.Requests.{asked_of}
 use Rattle.kept_replies.proofs.ReplyLaws.{not_kept}
 use Rattle.case_lines.proofs.issue_verbs.put_entry.Goals as goal
 

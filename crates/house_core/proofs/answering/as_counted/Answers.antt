@@ -1,5 +1,5 @@
 use Rattle.std.proofs.Common.{◌∙◌, sym}
-use Rattle.mc_records.specs.Requests.{asked_of}
+use Rattle.mc_requests.specs.Requests.{asked_of}
 use Rattle.house_core.proofs.Refused.{counted_draw, counted_scrip}
 use Rattle.house_core.proofs.answering.as_counted.Goals as goal
 

@@ -1,5 +1,5 @@
-use Rattle.mc_records.specs.declared.refusal.Refusal.TheVariants.{DiskFault}
-use Rattle.mc_records.specs.Requests.{Asked}
+use Rattle.mc_requests.specs.declared.refusal.Refusal.TheVariants.{DiskFault}
+use Rattle.mc_requests.specs.Requests.{Asked}
 use Rattle.ledger_model.specs.Histories.{History}
 use Rattle.ledger_model.specs.Replies.{refusal_of}
 use Rattle.house_core.proofs.Refused.{disk_fault_is}

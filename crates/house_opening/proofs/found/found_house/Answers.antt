@@ -1,5 +1,5 @@
 use Rattle.std.proofs.Common.{[], ◌∷◌, ◌∙◌, ap, sym}
-use Rattle.mc_records.specs.declared.limits.Limits.{Limits}
+use Rattle.mc_requests.specs.declared.limits.Limits.{Limits}
 use Rattle.mc_records.specs.Views.{entry}
 use Rattle.scrip_journal.specs.Founds.{FoundNoOutput}
 use Rattle.scrip_journal.proofs.FoundLemmas.{ran_at}

@@ -1,5 +1,5 @@
 use Rattle.std.proofs.Common.{◌∙◌, ap, sym}
-use Rattle.mc_records.specs.declared.limits.Limits.{Limits}
+use Rattle.mc_requests.specs.declared.limits.Limits.{Limits}
 use Rattle.house_opening.proofs.Beginnings.{of_kind}
 use Rattle.house_opening.proofs.opening.open_house.Goals as goal
 

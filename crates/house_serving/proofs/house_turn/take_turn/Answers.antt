@@ -1,5 +1,5 @@
 use Rattle.std.proofs.Common.{subst}
-use Rattle.mc_records.specs.Requests.{Asked}
+use Rattle.mc_requests.specs.Requests.{Asked}
 use Rattle.house_core.specs.Bench.{limits_of, state_of}
 use Rattle.house_serving.specs.Links.{AnswersRequest}
 use Rattle.link_turns.proofs.CauseLemmas.{counts_link, counts_then, causes_then}

@@ -1,5 +1,5 @@
 use Rattle.std.proofs.Common.{◌≡◌, List, ℕ, ◌++◌, sym, ap, ◌∙◌, subst}
-use Rattle.mc_records.specs.Requests.{Asked, asked_of}
+use Rattle.mc_requests.specs.Requests.{Asked, asked_of}
 use Rattle.ledger_model.specs.Answer.{answer}
 use Rattle.millicent_http.specs.Items.{request}
 use Rattle.millicent_http.specs.Takes.{item_of}

@@ -1,5 +1,5 @@
 use Rattle.std.proofs.Common.{◌≡◌, sym, ap, subst, ◌∙◌, Ok, Err, Some, None}
-use Rattle.mc_records.specs.Requests.{Asked}
+use Rattle.mc_requests.specs.Requests.{Asked}
 use Rattle.ledger_model.specs.Answer.{answered, draw_lines_within}
 use Rattle.ledger_model.proofs.WithinLaws.{within_by_lines}
 use Rattle.house_state.specs.Trade.{draw_asked}

@@ -1,6 +1,6 @@
 use Rattle.std.proofs.Common.{◌≡◌, arith, Result, sym, ap, ◌∙◌, Ok, Err, Some, None}
 use Rattle.mc_records.specs.Entry.{Draw}
-use Rattle.mc_records.specs.Requests.{asked_of}
+use Rattle.mc_requests.specs.Requests.{asked_of}
 use Rattle.ledger_model.specs.Accounts.{key_in}
 use Rattle.ledger_model.specs.Lines.{Stop, Refuse, ◌>>=◌}
 use Rattle.ledger_model.specs.Stages.{fitted_by, payable_by}

@@ -1,5 +1,5 @@
 use Rattle.std.proofs.Common.{sym, ◌≡◌, Ok, Err}
-use Rattle.mc_records.specs.Requests.{asked_of}
+use Rattle.mc_requests.specs.Requests.{asked_of}
 use Rattle.ledger_model.specs.Lines.{Refuse}
 use Rattle.house_state.proofs.Tabled.{genuine_in, spendable_in, not_genuine, not_spendable, takes}
 use Rattle.house_state.proofs.evaluating.evaluate_new.Goals as goal

@@ -1,5 +1,5 @@
 use Rattle.std.proofs.Common.{◌≡◌, ap, subst, ◌∙◌, Ok, Err, Some, None}
-use Rattle.mc_records.specs.Requests.{Asked}
+use Rattle.mc_requests.specs.Requests.{Asked}
 use Rattle.ledger_model.specs.Lines.{Refuse}
 use Rattle.ledger_model.specs.Answer.{after_repeat}
 use Rattle.house_state.specs.Verdicts.{accept_entry}

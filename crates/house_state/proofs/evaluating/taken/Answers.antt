@@ -1,6 +1,6 @@
 use Rattle.std.proofs.Common.{◌≡◌, arith, refl, ◌∙◌, Ok, Err}
 use Rattle.mc_records.specs.Entry.{Accept}
-use Rattle.mc_records.specs.Requests.{asked_of}
+use Rattle.mc_requests.specs.Requests.{asked_of}
 use Rattle.ledger_model.specs.Lines.{Refuse}
 use Rattle.ledger_model.specs.Stages.{fitted_by}
 use Rattle.ledger_model.specs.Answer.{offer}

@@ -1,5 +1,5 @@
 use Rattle.std.proofs.Common.{◌+◌, ◌<◌, ◌≤◌, ap, arith}
-use Rattle.mc_records.specs.declared.limits.Limits.{Limits}
+use Rattle.mc_requests.specs.declared.limits.Limits.{Limits}
 use Rattle.mc_records.specs.declared.sizes.TheConstants.{FRAME}
 use Rattle.mc_records.specs.Sizes.{size, entry_size, tail_bytes}
 use Rattle.mc_records.specs.Views.{entry}

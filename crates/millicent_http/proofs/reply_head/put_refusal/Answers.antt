@@ -1,6 +1,6 @@
 use Rattle.std.proofs.Common.{ℕ, List, ◌++◌, ◌∙◌, ap, take, append_assoc}
 use Rattle.std.specs.Prelude.{codes}
-use Rattle.mc_records.specs.Refusals.{refusal_text}
+use Rattle.mc_requests.specs.Refusals.{refusal_text}
 use Rattle.millicent_http.proofs.Appends.{after}
 use Rattle.millicent_http.proofs.reply_head.put_refusal.Goals as goal
 

@@ -1,4 +1,4 @@
-use Rattle.mc_records.specs.Replies.{reply_head}
+use Rattle.mc_requests.specs.Replies.{reply_head}
 use Rattle.millicent_http.proofs.Appends.{after}
 use Rattle.millicent_http.proofs.reply_head.write_reply_head.Goals as goal
 

@@ -1,4 +1,4 @@
-use Rattle.mc_records.specs.Replies.{reply_text}
+use Rattle.mc_requests.specs.Replies.{reply_text}
 use Rattle.millicent_http.proofs.Appends.{after}
 use Rattle.millicent_http.proofs.reply_text.write_reply_text.Goals as goal
 

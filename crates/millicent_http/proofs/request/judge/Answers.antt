@@ -2,7 +2,7 @@ use Rattle.std.proofs.Common.{ℕ, Bool, sym, ◌∙◌, ap, map, List}
 use Rattle.std.specs.Prelude.{codes, ◌&&◌, if◌then◌else◌}
 use Rattle.std.specs.Str.{bytes_eq}
 use Rattle.httparse.specs.Spans.{header_bytes, span_bytes}
-use Rattle.mc_records.specs.declared.refusal.Refusal.TheVariants.{NoHost, BadTarget, BadMethod, RepeatedField}
+use Rattle.mc_requests.specs.declared.refusal.Refusal.TheVariants.{NoHost, BadTarget, BadMethod, RepeatedField}
 use Rattle.millicent_http.specs.Fields.{values, at_most_one, first_of}
 use Rattle.scrip_form.specs.Texts.{is_target}
 use Rattle.millicent_http.specs.Items.{request, refused}

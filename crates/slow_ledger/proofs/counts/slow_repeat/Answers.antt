@@ -1,5 +1,5 @@
 use Rattle.std.proofs.Common.{arith, true, false, position}
-use Rattle.mc_records.specs.Requests.{asked_of}
+use Rattle.mc_requests.specs.Requests.{asked_of}
 use Rattle.ledger_model.specs.Stages.{is_repeat}
 use Rattle.slow_ledger.proofs.CountLaws.{position_start, position_more}
 use Rattle.slow_ledger.proofs.counts.slow_repeat.Goals as goal

@@ -1,6 +1,6 @@
 use Rattle.std.proofs.Common.{◌≡◌, drop, position}
 use Rattle.std.specs.List.{position_from}
-use Rattle.mc_records.specs.Requests.{asked_of}
+use Rattle.mc_requests.specs.Requests.{asked_of}
 use Rattle.ledger_model.specs.Stages.{is_repeat}
 use Rattle.slow_ledger.proofs.counts.slow_repeat.Given as goal
 

@@ -1,5 +1,5 @@
 use Rattle.std.proofs.Common.{sym}
-use Rattle.mc_records.specs.Requests.{asked_of}
+use Rattle.mc_requests.specs.Requests.{asked_of}
 use Rattle.slow_ledger.specs.Slow.{an_order}
 use Rattle.slow_ledger.proofs.TableSteps.{evaluates_along, to_drawn}
 use Rattle.slow_ledger.proofs.draws.evaluate_new.Goals as goal

@@ -1,5 +1,5 @@
 use Rattle.std.proofs.Common.{◌∙◌, ap, ℕ, position}
-use Rattle.mc_records.specs.Requests.{asked_of}
+use Rattle.mc_requests.specs.Requests.{asked_of}
 use Rattle.ledger_model.specs.Stages.{is_repeat}
 use Rattle.ledger_model.specs.Answer.{without_scrip}
 use Rattle.slow_ledger.proofs.draws.repeated.Goals as goal

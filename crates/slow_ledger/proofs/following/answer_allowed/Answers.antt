@@ -1,5 +1,5 @@
 use Rattle.std.proofs.Common.{ap, ◌≡◌, ◌∙◌, ℕ, List, bytes_eq}
-use Rattle.mc_records.specs.Requests.{seen}
+use Rattle.mc_requests.specs.Requests.{seen}
 use Rattle.ledger_model.specs.Lawful.{unbounded}
 use Rattle.slow_ledger.specs.Slow.{asked_by}
 use Rattle.ledger_model.specs.Lines.{Refuse, Repeat}

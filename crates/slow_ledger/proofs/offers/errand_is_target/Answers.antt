@@ -1,6 +1,6 @@
 use Rattle.std.proofs.Common.{◌≡◌, Option, Some, None, IfSome, refl, sym, subst}
 use Rattle.scrip_form.specs.Texts.{IsTarget}
-use Rattle.mc_records.specs.Errands.{Errand, errand_of}
+use Rattle.mc_requests.specs.Errands.{Errand, errand_of}
 use Rattle.slow_ledger.proofs.offers.errand_is_target.Goals as goal
 
 pub returns : goal.returns

@@ -1,5 +1,5 @@
 use Rattle.std.proofs.Common.{Some, None}
-use Rattle.mc_records.specs.Requests.{asked_of}
+use Rattle.mc_requests.specs.Requests.{asked_of}
 use Rattle.slow_ledger.proofs.TableSteps.{evaluates_along, to_repeat}
 use Rattle.slow_ledger.proofs.table.evaluate_read.Goals as goal
 

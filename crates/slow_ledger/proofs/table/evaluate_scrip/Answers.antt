@@ -1,5 +1,5 @@
 use Rattle.std.proofs.Common.{ap}
-use Rattle.mc_records.specs.Requests.{asked_of, seen}
+use Rattle.mc_requests.specs.Requests.{asked_of, seen}
 use Rattle.slow_ledger.proofs.TableSteps.{evaluates_along, to_read}
 use Rattle.slow_ledger.proofs.table.evaluate_scrip.Goals as goal
 

@@ -1,5 +1,5 @@
 use Rattle.std.proofs.Common.{ap, ◌∙◌, ℕ, List, Some, position}
-use Rattle.mc_records.specs.Requests.{Asked, seen}
+use Rattle.mc_requests.specs.Requests.{Asked, seen}
 use Rattle.ledger_model.specs.Houses.{keeping}
 use Rattle.ledger_model.specs.Stages.{is_repeat}
 use Rattle.slow_ledger.proofs.table.repeated.Goals as goal

@@ -1,5 +1,5 @@
 use Rattle.std.proofs.Common.{◌≡◌, ◌∙◌, Err}
-use Rattle.mc_records.specs.Requests.{asked_of}
+use Rattle.mc_requests.specs.Requests.{asked_of}
 use Rattle.mc_records.specs.Entry.{Accept}
 use Rattle.slow_ledger.specs.Slow.{offer_of}
 use Rattle.slow_ledger.proofs.TableSteps.{evaluates_along, stopped_evaluates, to_offer, to_change, taken_ok, taken_full, after_offer, after_change}

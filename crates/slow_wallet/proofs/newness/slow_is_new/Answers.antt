@@ -1,5 +1,5 @@
 use Rattle.std.proofs.Common.{option_to_list}
-use Rattle.mc_records.specs.Requests.{seen}
+use Rattle.mc_requests.specs.Requests.{seen}
 use Rattle.wallet_model.specs.Holdings.{texts_came}
 use Rattle.slow_wallet.proofs.Steps.{text_there, text_apart}
 use Rattle.slow_wallet.proofs.newness.slow_is_new.Goals as goal

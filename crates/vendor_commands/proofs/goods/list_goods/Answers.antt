@@ -2,7 +2,7 @@ use Rattle.std.proofs.Common.{ℕ, ◌+◌, List, inl, inr, refl, ap, ap₂, ◌
 use Rattle.house_core.specs.Bench.{house_time}
 use Rattle.house_core.specs.Tasks.{TellsLast}
 use Rattle.mc_records.specs.declared.ranges.TheConstants.{MOST_CONTENTS}
-use Rattle.mc_records.specs.declared.refusal.Refusal.TheVariants.{ContentsFull}
+use Rattle.mc_requests.specs.declared.refusal.Refusal.TheVariants.{ContentsFull}
 use Rattle.vendor_core.specs.Shelf.{shelf_view}
 use Rattle.vendor_core.specs.Tasks.{goods_task}
 use Rattle.vendor_commands.specs.Operations.{goods_operation}

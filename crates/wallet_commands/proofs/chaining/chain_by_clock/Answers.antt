@@ -1,6 +1,6 @@
 use Rattle.std.proofs.Common.{◌≡◌, ◌∙◌, sym, ap, subst}
 use Rattle.mc_outside.specs.LinkView.{LinkView}
-use Rattle.mc_records.specs.declared.refusal.Refusal.{Refusal}
+use Rattle.mc_requests.specs.declared.refusal.Refusal.{Refusal}
 use Rattle.wallet_core.specs.Answers.{IsFull}
 use Rattle.wallet_core.specs.Outcomes.{outcome_disk}
 use Rattle.wallet_commands.specs.Causes.{OnlyClocked, RefusedBy}

@@ -1,6 +1,6 @@
 use Rattle.std.proofs.Common.{◌∙◌, ℕ, sym, ap, subst}
 use Rattle.mc_outside.specs.LinkView.{LinkView}
-use Rattle.mc_records.specs.declared.refusal.Refusal.TheVariants as refusals
+use Rattle.mc_requests.specs.declared.refusal.Refusal.TheVariants as refusals
 use Rattle.command_status.specs.declared.status.Status.TheVariants as ends
 use Rattle.wallet_model.specs.Asks.{due_entry}
 use Rattle.wallet_core.specs.declared.ask.Ask.{Ask}

@@ -1,6 +1,6 @@
 use Rattle.std.proofs.Common.{◌≡◌, ◌∙◌, ℕ, List, length, refl, sym, ap, subst, Some, option_map, Ok}
 use Rattle.mc_outside.specs.LinkView.{LinkView}
-use Rattle.mc_records.specs.declared.refusal.Refusal.{Refusal}
+use Rattle.mc_requests.specs.declared.refusal.Refusal.{Refusal}
 use Rattle.reply_reader.specs.Seen.{received_of}
 use Rattle.millicent_http.specs.Received.{Received}
 use Rattle.wallet_model.specs.Requests.{Pending}

@@ -1,6 +1,6 @@
 use Rattle.std.proofs.Common.{◌≡◌, ◌∙◌, inl, refl, ap, subst, Ok, Err}
 use Rattle.std.specs.Prelude.{Result}
-use Rattle.mc_records.specs.declared.refusal.Refusal.TheVariants as refusals
+use Rattle.mc_requests.specs.declared.refusal.Refusal.TheVariants as refusals
 use Rattle.reply_reader.specs.declared.reply.ReplyRef.{ReplyRef}
 use Rattle.reply_reader.specs.declared.reply.ReplyFault.{ReplyFault}
 use Rattle.reply_reader.specs.declared.reply.ReplyFault.TheVariants as replies

@@ -1,6 +1,6 @@
 use Rattle.std.proofs.Common.{◌≡◌, ◌∙◌, inl, inr, ℕ, List, refl, sym, ap, subst}
 use Rattle.mc_outside.specs.LinkView.{LinkView}
-use Rattle.mc_records.specs.declared.refusal.Refusal.{Refusal}
+use Rattle.mc_requests.specs.declared.refusal.Refusal.{Refusal}
 use Rattle.ledger_model.specs.Histories.{History}
 use Rattle.millicent_http.specs.Inputs.{IsInput, LostInput}
 use Rattle.command_status.specs.declared.status.Status.TheVariants as ends

@@ -1,8 +1,8 @@
 use Rattle.std.proofs.Common.{◌≡◌, List, ℕ, ◌++◌, append_assoc, subst, codes}
 use Rattle.std.specs.Prelude.{decimal}
 use Rattle.scrip_certs.specs.Hashing.{Hashes}
-use Rattle.mc_records.specs.Replies.{or_dash}
-use Rattle.mc_records.specs.Requests.{seen}
+use Rattle.mc_requests.specs.Replies.{or_dash}
+use Rattle.mc_requests.specs.Requests.{seen}
 use Rattle.wallet_core.proofs.checking.add_head.Goals as goal
 
 joined : (m a b c d e f g k : List ℕ) → (((((((m ++ a) ++ b) ++ c) ++ d) ++ e) ++ f) ++ g) ++ k ≡ m ++ (((((((a ++ b) ++ c) ++ d) ++ e) ++ f) ++ g) ++ k)

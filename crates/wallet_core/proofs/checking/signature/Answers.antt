@@ -2,8 +2,8 @@ use Rattle.std.proofs.Common.{◌≡◌, List, ℕ, [], ◌∷◌, ◌++◌, app
 use Rattle.scrip_form.specs.Scrip.{text_version}
 use Rattle.scrip_certs.specs.Hashing.{Hashes}
 use Rattle.scrip_certs.specs.Digests.{line, request_text, reply_signature}
-use Rattle.mc_records.specs.Replies.{or_dash}
-use Rattle.mc_records.specs.Requests.{seen}
+use Rattle.mc_requests.specs.Replies.{or_dash}
+use Rattle.mc_requests.specs.Requests.{seen}
 use Rattle.reply_reader.specs.Seen.{received_of}
 use Rattle.wallet_model.specs.Received.{line_read}
 use Rattle.wallet_core.proofs.checking.signature.Goals as goal

@@ -1,5 +1,5 @@
 use Rattle.std.proofs.Common.{List, ℕ, [], ◌∷◌, None, ap, sym, subst, ◌∙◌}
-use Rattle.mc_records.specs.declared.limits.Limits.{Limits}
+use Rattle.mc_requests.specs.declared.limits.Limits.{Limits}
 use Rattle.mc_records.specs.Entry.{Site}
 use Rattle.wallet_core.specs.Wallet.{WalletStands}
 use Rattle.scrip_journal.proofs.Uncut.{uncut_at}

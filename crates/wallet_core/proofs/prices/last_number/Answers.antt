@@ -1,4 +1,4 @@
-use Rattle.mc_records.proofs.ErrandLaws.{last_told}
+use Rattle.mc_requests.proofs.ErrandLaws.{last_told}
 use Rattle.wallet_core.proofs.prices.last_number.Goals as goal
 
 pub returns-clause-number : goal.returns-clause-number

@@ -1,5 +1,5 @@
 use Rattle.std.proofs.Common.{◌≡◌, List, ℕ, ◌++◌, Err, ap, subst, sym, ◌∙◌}
-use Rattle.mc_records.specs.declared.refusal.Refusal.TheVariants.{BadInput}
+use Rattle.mc_requests.specs.declared.refusal.Refusal.TheVariants.{BadInput}
 use Rattle.mc_records.specs.Entry.{IsMoment}
 use Rattle.mc_records.specs.Pieces.{pieces_bytes}
 use Rattle.piece_lines.specs.declared.rule.PieceRule.TheVariants.{Any}

@@ -1,6 +1,6 @@
 use Rattle.std.proofs.Common.{◌≡◌, ◌+◌, ◌∙◌, refl, arith, ap, subst, inl, inr, Ok, Err}
 use Rattle.mc_outside.specs.LinkView.{LinkView}
-use Rattle.mc_records.specs.declared.limits.Limits.{Limits}
+use Rattle.mc_requests.specs.declared.limits.Limits.{Limits}
 use Rattle.wallet_book.specs.Book.{BookView}
 use Rattle.link_turns.proofs.CauseLemmas.{counts_none, counts_link, counts_then, rose_then}
 use Rattle.wallet_proxy.specs.Proxy.{Bounds}

@@ -2,7 +2,7 @@ use Rattle.std.proofs.Common.{◌≡◌, ◌∙◌, Bool, ◌≤◌, inl, inr, �
 use Rattle.std.specs.Prelude.{IsTrue}
 use Rattle.mc_outside.specs.Bytes.{Rose}
 use Rattle.mc_outside.specs.LinkView.{LinkView}
-use Rattle.mc_records.specs.declared.refusal.Refusal.TheVariants.{DiskFault, NoMemory}
+use Rattle.mc_requests.specs.declared.refusal.Refusal.TheVariants.{DiskFault, NoMemory}
 use Rattle.reply_reader.specs.Seen.{received_of}
 use Rattle.millicent_http.specs.Received.{Received}
 use Rattle.wallet_model.specs.Settling.{check_of, settlement}

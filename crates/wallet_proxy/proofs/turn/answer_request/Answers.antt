@@ -1,9 +1,9 @@
 use Rattle.std.proofs.Common.{◌≡◌, List, ℕ, sym, ap, subst, Result, Ok, Err}
 use Rattle.std.specs.Prelude.{IsTrue}
 use Rattle.mc_outside.specs.LinkView.{LinkView}
-use Rattle.mc_records.specs.declared.refusal.Refusal.{Refusal}
-use Rattle.mc_records.specs.declared.refusal.Refusal.TheVariants.{NotPlain}
-use Rattle.mc_records.specs.Requests.{Asked, asked_of}
+use Rattle.mc_requests.specs.declared.refusal.Refusal.{Refusal}
+use Rattle.mc_requests.specs.declared.refusal.Refusal.TheVariants.{NotPlain}
+use Rattle.mc_requests.specs.Requests.{Asked, asked_of}
 use Rattle.wallet_model.specs.Requests.{kept_get}
 use Rattle.wallet_model.specs.Asks.{chosen}
 use Rattle.link_turns.proofs.CauseLemmas.{counts_link, causes_then}

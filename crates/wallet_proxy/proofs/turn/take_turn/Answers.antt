@@ -1,5 +1,5 @@
 use Rattle.std.proofs.Common.{◌≡◌, ap, subst}
-use Rattle.mc_records.specs.Requests.{asked_of}
+use Rattle.mc_requests.specs.Requests.{asked_of}
 use Rattle.mc_outside.specs.LinkView.{LinkView}
 use Rattle.millicent_http.specs.HeadRefusals.{as_refusal}
 use Rattle.wallet_book.specs.Book.{BookView}

@@ -1,8 +1,8 @@
 use Rattle.std.proofs.Common.{Option, Err, subst, arith}
-use Rattle.mc_records.specs.declared.limits.Limits.{Limits}
+use Rattle.mc_requests.specs.declared.limits.Limits.{Limits}
 use Rattle.mc_records.specs.Views.{entry}
 use Rattle.ledger_model.specs.Lawful.{MayFollow}
-use Rattle.mc_records.specs.declared.limits.TheConstants.Limits.{FULL}
+use Rattle.mc_requests.specs.declared.limits.TheConstants.Limits.{FULL}
 use Rattle.house_core.specs.declared.spent.SpentPiece.{SpentPiece}
 use Rattle.house_core.specs.Bench.{Replays}
 use Rattle.house_core.proofs.Entered.{time_snoc}

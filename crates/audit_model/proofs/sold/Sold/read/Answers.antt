@@ -1,7 +1,7 @@
 use Rattle.std.proofs.Common.{◌≡◌, List, ℕ, Option, Some, sym, ap, ◌∙◌}
-use Rattle.mc_records.specs.Errands.{Errand, buy, errand_of}
-use Rattle.mc_records.specs.declared.errand.Errand as errands
-use Rattle.mc_records.specs.ErrandViews.{errand}
+use Rattle.mc_requests.specs.Errands.{Errand, buy, errand_of}
+use Rattle.mc_requests.specs.declared.errand.Errand as errands
+use Rattle.mc_requests.specs.ErrandViews.{errand}
 use Rattle.audit_model.proofs.sold.Sold.read.Goals as goal
 
 errand_is : {read e : errands.Errand} (target : List ℕ) → read ≡ e → Some (errand read) ≡ errand_of target → errand_of target ≡ Some (errand e)

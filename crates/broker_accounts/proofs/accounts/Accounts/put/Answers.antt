@@ -1,6 +1,6 @@
 use Rattle.std.proofs.Common.{◌+◌, ◌^◌, ◌<◌, ◌≤◌, Some, ap, refl, ◌∙◌, arith}
 use Rattle.std.proofs.lemmas.Bool.{lt-ltb, le-ltb}
-use Rattle.mc_records.specs.declared.refusal.Refusal.TheVariants as refusals
+use Rattle.mc_requests.specs.declared.refusal.Refusal.TheVariants as refusals
 use Rattle.broker_accounts.specs.Accounts.{AccountView, AccountsView, changed, credited}
 use Rattle.broker_accounts.proofs.AccountLaws.{at_place, found_in, none_in, set_is_changed, stored_set}
 use Rattle.broker_accounts.proofs.accounts.Accounts.put.Goals as goal

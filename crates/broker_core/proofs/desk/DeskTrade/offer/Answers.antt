@@ -1,5 +1,5 @@
 use Rattle.std.proofs.Common.{◌∙◌, ap, sym}
-use Rattle.mc_records.specs.Errands.{errand_of}
+use Rattle.mc_requests.specs.Errands.{errand_of}
 use Rattle.ledger_model.specs.Answer.{errand_offer}
 use Rattle.broker_core.proofs.DeskLaws.{offer_is, buy_asked, credits, offers_nothing}
 use Rattle.broker_core.proofs.desk.DeskTrade.offer.Goals as goal

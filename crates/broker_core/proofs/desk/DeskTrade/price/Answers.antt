@@ -1,5 +1,5 @@
 use Rattle.std.proofs.Common.{◌∙◌, ◌+◌, Some, ap, sym, ℕ}
-use Rattle.mc_records.specs.Errands.{errand_of}
+use Rattle.mc_requests.specs.Errands.{errand_of}
 use Rattle.ledger_model.specs.Houses.{fee}
 use Rattle.ledger_model.specs.Replies.{errand_price}
 use Rattle.broker_core.proofs.DeskLaws.{buy_asked, no_price, price_is}

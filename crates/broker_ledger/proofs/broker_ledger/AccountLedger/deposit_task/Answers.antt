@@ -1,5 +1,5 @@
 use Rattle.std.proofs.Common.{◌+◌, ◌^◌, ◌<◌, ◌≤◌, Some, None, sym, ap, ◌∙◌, refl, arith}
-use Rattle.mc_records.specs.declared.refusal.Refusal.TheVariants.{NoAccount, AccountFull}
+use Rattle.mc_requests.specs.declared.refusal.Refusal.TheVariants.{NoAccount, AccountFull}
 use Rattle.ledger_model.specs.Pieces.{has_reference}
 use Rattle.broker_ledger.proofs.TaskLaws.{put_nowhere, put_above, put_within, deposit_judged, deposit_allowed}
 use Rattle.broker_ledger.proofs.broker_ledger.AccountLedger.deposit_task.Goals as goal

@@ -3,7 +3,7 @@ use Rattle.std.specs.Prelude.{◌<◌, ◌≤◌, IfSome, IsSome}
 use Rattle.mc_records.specs.Entry.{Draw}
 use Rattle.ledger_model.specs.Orders.{Order, order_of}
 use Rattle.ledger_model.specs.Accounts.{account_in, last_order, balance}
-use Rattle.mc_records.specs.declared.refusal.Refusal.{Refusal}
+use Rattle.mc_requests.specs.declared.refusal.Refusal.{Refusal}
 use Rattle.broker_accounts.specs.Accounts.{AccountView}
 use Rattle.broker_ledger.specs.Ledger.{ShowsAccounts, order_view}
 use Rattle.broker_ledger.proofs.LedgerLaws.{draw_more, payments_stay}

@@ -1,5 +1,5 @@
 use Rattle.std.proofs.Common.{◌<◌, ◌≤◌, Some, None, sym, ap, ◌∙◌, refl, arith}
-use Rattle.mc_records.specs.declared.refusal.Refusal.TheVariants.{NoAccount, PoorAccount}
+use Rattle.mc_requests.specs.declared.refusal.Refusal.TheVariants.{NoAccount, PoorAccount}
 use Rattle.ledger_model.specs.Pieces.{has_reference}
 use Rattle.broker_ledger.proofs.TaskLaws.{taken_nowhere, taken_above, taken_within, withdraw_judged, withdraw_allowed}
 use Rattle.broker_ledger.proofs.broker_ledger.AccountLedger.withdraw_task.Goals as goal

@@ -1,6 +1,6 @@
 use Rattle.std.proofs.Common.{◌≤◌, ◌^◌, ℕ, ◌∷◌, [], ◌++◌, refl, sym, ap, subst, arith, ◌∙◌}
 use Rattle.std.specs.Prelude.{max}
-use Rattle.mc_records.specs.declared.limits.Limits.{Limits}
+use Rattle.mc_requests.specs.declared.limits.Limits.{Limits}
 use Rattle.mc_records.specs.Entry.{moment_of}
 use Rattle.mc_records.specs.Views.{entry}
 use Rattle.kept_replies.specs.Kept.{KeptView}

@@ -1,6 +1,6 @@
 use Rattle.std.proofs.Common.{◌≡◌, ◌∙◌, sym, ap}
-use Rattle.mc_records.specs.declared.limits.Limits.{Limits}
-use Rattle.mc_records.specs.Requests.{Asked}
+use Rattle.mc_requests.specs.declared.limits.Limits.{Limits}
+use Rattle.mc_requests.specs.Requests.{Asked}
 use Rattle.house_core.specs.Bench.{house_time, limits_of}
 use Rattle.house_state.specs.Verdicts.{authorized_entry}
 use Rattle.house_core.specs.BenchView.{BenchView}

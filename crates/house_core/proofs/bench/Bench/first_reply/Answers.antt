@@ -1,6 +1,6 @@
 use Rattle.std.proofs.Common.{◌≡◌, Some, sym, ◌∙◌, eqb}
 use Rattle.std.proofs.lemmas.Bool.{eqb-true}
-use Rattle.mc_records.specs.Requests.{asked_of}
+use Rattle.mc_requests.specs.Requests.{asked_of}
 use Rattle.kept_replies.specs.Kept.{KeptReply, with_number}
 use Rattle.house_state.specs.Trade.{OfGoods}
 use Rattle.house_state.specs.Representation.{IsReply}

@@ -1,7 +1,7 @@
 use Rattle.std.proofs.Common.{◌≡◌, ℕ, List, Some, None, sym, ap, subst, ◌∙◌, append-nil, [], unwrap_or}
 use Rattle.std.specs.Prelude.{codes}
-use Rattle.mc_records.specs.Requests.{Asked, asked_of}
-use Rattle.mc_records.specs.Replies.{reply_head}
+use Rattle.mc_requests.specs.Requests.{Asked, asked_of}
+use Rattle.mc_requests.specs.Replies.{reply_head}
 use Rattle.ledger_model.specs.Answer.{as_counted, draw_in}
 use Rattle.ledger_model.specs.Replies.{secret_of_refusal, price_told, signed, refused_values}
 use Rattle.house_state.specs.Trade.{draw_asked}

@@ -1,5 +1,5 @@
 use Rattle.std.proofs.Common.{refl, sym, ap, subst, ◌∙◌, arith, Ok, Err}
-use Rattle.mc_records.specs.declared.limits.Limits.{Limits}
+use Rattle.mc_requests.specs.declared.limits.Limits.{Limits}
 use Rattle.ledger_model.specs.Answer.{Answer, answer}
 use Rattle.ledger_model.proofs.WithinLaws.{within_keeping}
 use Rattle.house_core.specs.declared.fault.BenchFault.TheVariants as faults

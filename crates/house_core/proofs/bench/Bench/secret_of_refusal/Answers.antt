@@ -1,5 +1,5 @@
 use Rattle.std.proofs.Common.{◌≡◌, Bool, true, None, cond, sym, ap, ◌∙◌}
-use Rattle.mc_records.specs.Refusals.{is_signed}
+use Rattle.mc_requests.specs.Refusals.{is_signed}
 use Rattle.ledger_model.specs.Answer.{draw_in}
 use Rattle.ledger_model.specs.Replies.{asker_secret}
 use Rattle.house_core.proofs.bench.Bench.secret_of_refusal.Goals as goal

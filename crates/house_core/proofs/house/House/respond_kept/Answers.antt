@@ -1,6 +1,6 @@
 use Rattle.std.proofs.Common.{refl, sym, ap, subst, ◌∙◌}
 use Rattle.mc_outside.specs.DiskView.{Ran}
-use Rattle.mc_records.specs.declared.limits.Limits.{Limits}
+use Rattle.mc_requests.specs.declared.limits.Limits.{Limits}
 use Rattle.ledger_model.specs.Answer.{Answer, answer}
 use Rattle.ledger_model.proofs.WithinLaws.{within_keeping}
 use Rattle.house_core.specs.House.{Responds, Leaves, outcome_disk}

@@ -1,5 +1,5 @@
 use Rattle.std.proofs.Common.{Option, Err, subst}
-use Rattle.mc_records.specs.declared.limits.Limits.{Limits}
+use Rattle.mc_requests.specs.declared.limits.Limits.{Limits}
 use Rattle.mc_records.specs.Views.{entry}
 use Rattle.house_core.specs.declared.spent.SpentPiece.{SpentPiece}
 use Rattle.house_core.specs.Bench.{Replays, limits_of}

@@ -1,7 +1,7 @@
 use Rattle.scrip_form.specs.Issuing.{epoch}
 use Rattle.std.proofs.Common.{◌<◌, ◌^◌, ◌≡◌, ◌+◌, ◌≤◌, None, sym, subst, ap, ◌∙◌}
 use Rattle.std.specs.Prelude.{◌-◌, vec_len, vec_capacity}
-use Rattle.mc_records.specs.Requests.{asked_of}
+use Rattle.mc_requests.specs.Requests.{asked_of}
 use Rattle.kept_replies.specs.Requests.{text_size}
 use Rattle.kept_replies.specs.Kept.{found}
 use Rattle.house_state.specs.HouseState.{HouseStateView, IsEntered, size_with, pieces_size}

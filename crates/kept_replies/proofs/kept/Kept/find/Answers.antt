@@ -1,5 +1,5 @@
 use Rattle.std.proofs.Common.{◌≡◌, ℕ, false, find, IsNone, subst}
-use Rattle.mc_records.specs.Requests.{asked_of}
+use Rattle.mc_requests.specs.Requests.{asked_of}
 use Rattle.kept_replies.specs.Index.{request_tag, leads}
 use Rattle.kept_replies.specs.Store.{is_repeat}
 use Rattle.kept_replies.proofs.FoundLaws.{asks, number_if, number_found, none_exactly}

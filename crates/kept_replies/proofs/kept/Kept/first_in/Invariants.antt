@@ -1,6 +1,6 @@
 use Rattle.std.proofs.Common.{◌≡◌, drop}
 use Rattle.std.specs.List.{list_any}
-use Rattle.mc_records.specs.Requests.{asked_of}
+use Rattle.mc_requests.specs.Requests.{asked_of}
 use Rattle.kept_replies.specs.Index.{slot_leads}
 use Rattle.kept_replies.specs.Store.{is_repeat}
 use Rattle.kept_replies.proofs.kept.Kept.first_in.Given as goal

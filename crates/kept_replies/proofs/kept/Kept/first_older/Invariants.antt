@@ -1,5 +1,5 @@
 use Rattle.std.proofs.Common.{◌≡◌, drop, find}
-use Rattle.mc_records.specs.Requests.{asked_of}
+use Rattle.mc_requests.specs.Requests.{asked_of}
 use Rattle.kept_replies.specs.Store.{is_repeat}
 use Rattle.kept_replies.proofs.kept.Kept.first_older.Given as goal
 

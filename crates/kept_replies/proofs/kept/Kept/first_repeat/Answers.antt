@@ -1,7 +1,7 @@
 use Rattle.std.proofs.Common.{◌||◌, is_some, refl, sym, ap, ◌∙◌}
 use Rattle.std.specs.List.{list_any}
 use Rattle.std.proofs.lemmas.Bool.{or_from}
-use Rattle.mc_records.specs.Requests.{asked_of}
+use Rattle.mc_requests.specs.Requests.{asked_of}
 use Rattle.kept_replies.specs.Index.{slot_leads}
 use Rattle.kept_replies.specs.Store.{is_repeat}
 use Rattle.kept_replies.proofs.SearchLaws.{is_some-find, find_passes_if}

@@ -1,5 +1,5 @@
 use Rattle.std.proofs.Common.{◌≡◌, ℕ, List, ◌++◌, sym, ap, ◌∙◌, subst}
-use Rattle.mc_records.specs.Requests.{Asked, asked_of}
+use Rattle.mc_requests.specs.Requests.{Asked, asked_of}
 use Rattle.millicent_http.specs.Takes.{item_of}
 use Rattle.millicent_http.specs.declared.item.ItemRef.{ItemRef}
 use Rattle.house_core.specs.Session.{said_reply}

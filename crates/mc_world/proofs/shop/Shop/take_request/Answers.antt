@@ -1,6 +1,6 @@
 use Rattle.std.proofs.Common.{ℕ, refl, sym, ap, subst, ◌∙◌}
 use Rattle.std.specs.Prelude.{max}
-use Rattle.mc_records.specs.Requests.{Asked, asked_of}
+use Rattle.mc_requests.specs.Requests.{Asked, asked_of}
 use Rattle.ledger_model.specs.Answer.{answer}
 use Rattle.house_core.specs.Bench.{house_time}
 use Rattle.mc_world.specs.Shops.{IsTold, shop_state, history_after}

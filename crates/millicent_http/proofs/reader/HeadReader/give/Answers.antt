@@ -3,7 +3,7 @@ use Rattle.std.specs.Prelude.{slice_range}
 use Rattle.millicent_http.specs.Held.{Held}
 use Rattle.millicent_http.specs.Items.{request, refused}
 use Rattle.millicent_http.specs.declared.item.After.TheVariants.{Close}
-use Rattle.mc_records.specs.Requests.{asked_of}
+use Rattle.mc_requests.specs.Requests.{asked_of}
 use Rattle.millicent_http.specs.HeadRefusals.{as_refusal}
 use Rattle.millicent_http.proofs.BufferLemmas.{held_len}
 use Rattle.millicent_http.proofs.TakeLemmas.{give_item, buffer_behind, ends_link}

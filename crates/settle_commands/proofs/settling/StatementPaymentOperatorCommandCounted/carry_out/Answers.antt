@@ -1,6 +1,6 @@
 use Rattle.std.proofs.Common.{[]}
 use Rattle.house_core.specs.Bench.{house_time}
-use Rattle.mc_records.specs.declared.refusal.Refusal.TheVariants.{BadInput}
+use Rattle.mc_requests.specs.declared.refusal.Refusal.TheVariants.{BadInput}
 use Rattle.operator_command.proofs.CommandLemmas.{back_as, performs_as, performs_refused, refused_as}
 use Rattle.counted_trade.specs.Counted.{counted_view}
 use Rattle.settle_core.specs.Statements.{statement_input}

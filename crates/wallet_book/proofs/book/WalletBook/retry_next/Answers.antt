@@ -1,5 +1,5 @@
 use Rattle.std.proofs.Common.{List, ℕ, Some, None, Ok, Err, refl, ap, ◌∙◌, find, bytes_eq}
-use Rattle.mc_records.specs.declared.refusal.Refusal.TheVariants.{Nothing}
+use Rattle.mc_requests.specs.declared.refusal.Refusal.TheVariants.{Nothing}
 use Rattle.wallet_book.specs.declared.kept.Kept.{Kept}
 use Rattle.wallet_book.specs.Book.{BookView}
 use Rattle.wallet_book.proofs.BookLaws.{retries}

@@ -1,7 +1,7 @@
 use Rattle.std.proofs.Common.{◌≡◌, true, false, List, Option, Some, option_map, sym, subst, find}
 use Rattle.std.specs.Prelude.{◌==◌, option_to_list}
 use Rattle.mc_records.specs.Entry.{Held}
-use Rattle.mc_records.specs.Requests.{seen}
+use Rattle.mc_requests.specs.Requests.{seen}
 use Rattle.mc_records.specs.Views.{held_of}
 use Rattle.wallet_book.specs.declared.holding.Holding.{Holding}
 use Rattle.wallet_book.specs.declared.kept.Kept.{Kept}

@@ -2,7 +2,7 @@ use Rattle.std.proofs.Common.{List, Option, sym, subst}
 use Rattle.std.specs.Borrow.{Bor}
 use Rattle.std.proofs.Common.{ℕ}
 use Rattle.mc_records.specs.Entry.{Pend}
-use Rattle.mc_records.specs.Requests.{seen}
+use Rattle.mc_requests.specs.Requests.{seen}
 use Rattle.wallet_book.specs.Parts.{LearnsEntry}
 use Rattle.wallet_book.proofs.parts.Parts.learn_pend.Goals as goal
 

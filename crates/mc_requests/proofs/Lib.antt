@@ -1,0 +1,3 @@
+pub mod DateLemmas
+pub mod ErrandLaws
+pub mod TargetLaws
