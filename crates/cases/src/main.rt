@@ -14,8 +14,7 @@ use std::process::ExitCode;
 use std::{env, fs, io};
 
 fn main(rt: HostRuntime) -> io::Result<ExitCode> {
-    let mut state = State::new(rt.alloc());
-    let files = run_all(&rt, &mut state)?;
+    let files = run_all(&rt)?;
     if files == Some(0) {
         println!(rt; "no files")?;
     }
@@ -26,7 +25,12 @@ fn main(rt: HostRuntime) -> io::Result<ExitCode> {
 }
 
 /// Runs the files that the words name, and tells how many; None where one is not done.
-fn run_all(rt: &HostRuntime, state: &mut State) -> io::Result<Option<u64>> {
+fn run_all(rt: &HostRuntime) -> io::Result<Option<u64>> {
+    let mut state = State::new(rt.alloc());
+    run_files(rt, &mut state)
+}
+
+fn run_files(rt: &HostRuntime, state: &mut State) -> io::Result<Option<u64>> {
     let mut files = 0_u64;
     for path in env::args(rt)?.skip(1) {
         if !run_file(rt, state, path.as_str())? {
