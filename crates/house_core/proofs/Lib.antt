@@ -20,3 +20,4 @@ pub mod SwitchLemmas
 pub mod TaskLemmas
 pub mod UpgradeLemmas
 pub mod RefusingLemmas
+pub mod GatheringLemmas

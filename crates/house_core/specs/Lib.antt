@@ -9,3 +9,4 @@ pub mod House
 pub mod Tasks
 pub mod Upgrading
 pub mod Refusing
+pub mod Gathering

@@ -561,7 +561,7 @@ fn draw_record<'a>(time: Moment, target: &'a [u8], d: &DrawAuthorization) -> Rec
 }
 
 /// What comes of a request that makes no entry.
-fn stopped_with(stopped: NotAuthorized) -> Result<KeptNumber, BenchFault>
+pub(crate) fn stopped_with(stopped: NotAuthorized) -> Result<KeptNumber, BenchFault>
     ensures { result ≡ stopped_with stopped }
 {
     match stopped {

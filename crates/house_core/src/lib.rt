@@ -8,6 +8,7 @@
 mod answering;
 mod bench;
 mod fault;
+mod gathering;
 mod house;
 mod outcome;
 mod replaying;

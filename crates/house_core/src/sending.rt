@@ -2,7 +2,7 @@
 
 ghost use Rattle.std.specs.Prelude.{◌≡◌, ◌<◌, [], ◌∷◌, ℕ, max, length, take, IsTrue, OnOk, OnErr, option_map};
 ghost use Rattle.mc_outside.specs.DiskView.{Ran};
-ghost use Rattle.mc_outside.specs.LinkView.{after_send, Failed};
+ghost use Rattle.mc_outside.specs.LinkView.{after_send, Failed, IsWhose};
 ghost use Rattle.mc_requests.specs.declared.refusal.Refusal.TheVariants as refusals;
 ghost use Rattle.mc_requests.specs.Requests.{Asked};
 ghost use Rattle.ledger_model.specs.Histories.{History};
@@ -21,7 +21,7 @@ use house_state::{Presented, Trade};
 use kept_replies::KeptNumber;
 use link_turns::Reply;
 use mc_base::Moment;
-use mc_outside::{Link, LinkFault, Outside};
+use mc_outside::{Doors, Link, LinkFault, Outside};
 use mc_requests::Refusal;
 use scrip_journal::Halted;
 
@@ -62,6 +62,16 @@ impl<O: Outside, T: Trade> Link for House<O, T> {
 
     fn now(&mut self) -> Moment {
         self.journal.now()
+    }
+}
+
+impl<O: Doors, T: Trade> House<O, T> {
+    /// Whether the standing link came through the operator's door.
+    pub fn is_operators(&self) -> bool
+        requires { IsTrue (O.link self.now.journal.disk).stands }
+        ensures { IsWhose (O.link self.now.journal.disk) result }
+    {
+        self.journal.is_operators()
     }
 }
 

@@ -32,7 +32,7 @@ use Rattle.house_serving.proofs.HouseTurnLemmas.{ReadOn, stands_at}
 use Rattle.house_state.specs.Trade.{TradeView}
 
 -- the state that a house is in after its steps
-went_at : {O T : Type 0} (link : O → LinkView) (disk : O → DiskView) (trade : T → TradeView) (a : O) (s : State) (xs : List (Did State)) (x : HouseView O T) → RefinesBy link disk trade a s xs x
+pub went_at : {O T : Type 0} (link : O → LinkView) (disk : O → DiskView) (trade : T → TradeView) (a : O) (s : State) (xs : List (Did State)) (x : HouseView O T) → RefinesBy link disk trade a s xs x
     → state_of (state_after s xs).history x.bench ≡ state_after s xs
 went_at link disk trade a s xs x went = ap (λ (t : ℕ). record { history = (state_after s xs).history; time = t }) went.stands.time
 

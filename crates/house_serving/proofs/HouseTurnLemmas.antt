@@ -106,7 +106,7 @@ pub record SentOn {O T : Type 0} (link : O → LinkView) (disk : O → DiskView)
   pub rests : HouseRests y z
 
 -- a reply was sent, or a prefix of it, when what it speaks of was there
-reply_went : {O T : Type 0} (link : O → LinkView) (disk : O → DiskView) (trade : T → TradeView) (y z : HouseView O T) (s : State) (d : Did State) → SentOn link disk y z → StandsAt disk trade y d.after
+pub reply_went : {O T : Type 0} (link : O → LinkView) (disk : O → DiskView) (trade : T → TradeView) (y z : HouseView O T) (s : State) (d : Did State) → SentOn link disk y z → StandsAt disk trade y d.after
     → (link z.journal.disk).sessions ≡ (after_send d.sent (link y.journal.disk)).sessions → RefinesBy link disk trade y.journal.disk s (d ∷ []) z
 reply_went link disk trade y z s d on st sent =
     went_sent link disk outside_of (StandsAt disk trade) history_of (house_leaves disk trade) on.tells y z s d on.is_link on.standing st (stands_kept disk trade y z d.after on.keeps on.rests st) on.keeps on.goes sent
@@ -237,14 +237,14 @@ pub record RaisedBy {O T : Type 0} (link : O → LinkView) (disk : O → DiskVie
   pub read : AreRead OfLinks (reading ∷ []) (link x.journal.disk).readings (link y.journal.disk).readings
 
 -- nothing was sent while it was raised
-raised_quiet : {O T : Type 0} (link : O → LinkView) (disk : O → DiskView) (trade : T → TradeView) (x y : HouseView O T) (reading : ℕ) (h : History)
+pub raised_quiet : {O T : Type 0} (link : O → LinkView) (disk : O → DiskView) (trade : T → TradeView) (x y : HouseView O T) (reading : ℕ) (h : History)
     → RaisedBy link disk trade x y reading → HouseRepresents disk trade x h → RefinesBy link disk trade x.journal.disk (state_of h y.bench) [] y
 raised_quiet link disk trade x y reading h up st =
     went_quiet link disk outside_of (StandsAt disk trade) history_of (house_leaves disk trade) up.tells x y (state_of h x.bench) (state_of h y.bench) refl (stands_at disk trade x h st) up.keeps up.goes (stands_at disk trade y h (up.represents h st))
     (no_more_still (link x.journal.disk) (link y.journal.disk) (ap (λ (v : LinkView). v.sessions) up.rest))
 
 -- a step after it, as a step from before
-raised_went : {O T : Type 0} (link : O → LinkView) (disk : O → DiskView) (trade : T → TradeView) (x y z : HouseView O T) (reading : ℕ) (h : History) (step : Did State)
+pub raised_went : {O T : Type 0} (link : O → LinkView) (disk : O → DiskView) (trade : T → TradeView) (x y z : HouseView O T) (reading : ℕ) (h : History) (step : Did State)
     → RaisedBy link disk trade x y reading → HouseRepresents disk trade x h → RefinesBy link disk trade y.journal.disk (state_of h y.bench) (step ∷ []) z
     → RefinesBy link disk trade x.journal.disk (state_of h x.bench) (step ∷ []) z
 raised_went link disk trade x y z reading h step up st went =
@@ -252,7 +252,7 @@ raised_went link disk trade x y z reading h step up st went =
     (went_on link disk outside_of (StandsAt disk trade) history_of (house_leaves disk trade) up.tells x.journal.disk (state_of h y.bench) [] (step ∷ []) y z (raised_quiet link disk trade x y reading h up st) went)
 
 -- the state at the reading
-raised_is : {O T : Type 0} (link : O → LinkView) (disk : O → DiskView) (trade : T → TradeView) (x y : HouseView O T) (reading : ℕ) (h : History) → RaisedBy link disk trade x y reading
+pub raised_is : {O T : Type 0} (link : O → LinkView) (disk : O → DiskView) (trade : T → TradeView) (x y : HouseView O T) (reading : ℕ) (h : History) → RaisedBy link disk trade x y reading
     → state_of h y.bench ≡ raised (state_of h x.bench) reading
 raised_is link disk trade x y reading h up = ap (λ (t : ℕ). record { history = h; time = t }) up.time
 
@@ -319,7 +319,7 @@ pub record ReadOn {O T : Type 0} (link : O → LinkView) (disk : O → DiskView)
   pub goes : LinkGoes (link x.journal.disk) (link y.journal.disk)
   pub rests : HouseRests x y
 
-read_quiet : {O T : Type 0} (link : O → LinkView) (disk : O → DiskView) (trade : T → TradeView) (x y : HouseView O T) (h : History) → ReadOn link disk x y → HouseRepresents disk trade x h
+pub read_quiet : {O T : Type 0} (link : O → LinkView) (disk : O → DiskView) (trade : T → TradeView) (x y : HouseView O T) (h : History) → ReadOn link disk x y → HouseRepresents disk trade x h
     → SentNoMore (link x.journal.disk) (link y.journal.disk) → RefinesBy link disk trade x.journal.disk (state_of h x.bench) [] y
 read_quiet {T = T} link disk trade x y h on st same =
     let s : State = state_of h x.bench in

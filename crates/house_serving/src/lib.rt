@@ -10,6 +10,6 @@ mod serving;
 mod turn;
 mod whole;
 
-pub use links::{ServeOut, serve_links};
+pub use links::{ServeOut, serve_link, serve_links};
 pub use serving::{BenchEnd, serve_bench, serve_bench_by};
 pub use whole::reply_to_link;

@@ -63,7 +63,7 @@ pub fn serve_links<O: Outside, T: Trade>(mut house: House<O, T>, links: u32) -> 
 
 /// Serves the standing link and ends it: answers each item, up to one that ends the link, to the link's
 /// end, or to a fault of the link.
-fn serve_link<O: Outside, T: Trade>(
+pub fn serve_link<O: Outside, T: Trade>(
     house: House<O, T>,
     reader: &mut HeadReader,
     room: &mut ReplyRoom,

@@ -1,6 +1,6 @@
 //! The page from which a reply leaves.
 
-ghost use Rattle.std.specs.Prelude.{◌≡◌, ◌≤◌, ◌<◌, ◌++◌, ℕ, length, take, IsTrue, OnOk, OnErr};
+ghost use Rattle.std.specs.Prelude.{◌≡◌, ◌≤◌, ◌<◌, ◌+◌, ◌++◌, ℕ, length, take, IsTrue, OnOk, OnErr};
 ghost use Rattle.mc_outside.specs.LinkView.{after_send, Failed};
 ghost use Rattle.mc_requests.specs.Replies.{reply_head};
 ghost use Rattle.millicent_http.specs.ReplyHeads.{IsReplyHead, reply_of};
@@ -79,6 +79,25 @@ impl<'a> Reply<'a> {
         }
     }
 
+    /// Writes the reply at a place of the buffer, which has room for it there, and answers the place behind it. What stands
+    /// before the place stays.
+    pub fn put_into(&self, out: &mut [u8], at: usize) -> usize
+        requires { at + length self.now ≤ length out.old }
+        ensures len { length out.new ≡ length out.old }
+        ensures end { result ≡ at + length self.now }
+        ensures put { take result out.new ≡ take at out.old ++ self.now }
+    {
+        let len = put_part(out, at, self.page);
+        put_part(out, len, self.rest)
+    }
+
+    /// How many bytes it has.
+    pub fn len(&self) -> usize
+        ensures { result ≡ length self.now }
+    {
+        self.page.len() + self.rest.len()
+    }
+
     /// Sends the reply: in one call of the link where it fits a page and the link takes it whole. At an
     /// `Err` a prefix of it was sent, and not the whole.
     pub fn send<K: Link>(&self, k: &mut K) -> Result<(), LinkFault>
@@ -92,6 +111,18 @@ impl<'a> Reply<'a> {
         send_all(k, self.page)?;
         send_all(k, self.rest)
     }
+}
+
+/// Writes a part of a reply at a place of the buffer, and answers the place behind it.
+fn put_part(out: &mut [u8], at: usize, bytes: &[u8]) -> usize
+    requires { at + length bytes.now ≤ length out.old }
+    ensures len { length out.new ≡ length out.old }
+    ensures end { result ≡ at + length bytes.now }
+    ensures put { take result out.new ≡ take at out.old ++ bytes.now }
+{
+    let end = at + bytes.len();
+    out[at..end].copy_from_slice(bytes);
+    end
 }
 
 /// Writes a head at the front of a page, and answers how many bytes it has.

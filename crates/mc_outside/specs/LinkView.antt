@@ -1,5 +1,6 @@
 -- What links mean, and what their calls do to that.
-use Rattle.std.specs.Prelude.{◌≡◌, ◌≢◌, ℕ, ◌^◌, ◌<◌, ◌≤◌, Bool, true, false, List, [], ◌∷◌, ◌++◌, Option, Some, option_map, is_some, IsSome, IsTrue}
+use Rattle.std.specs.Prelude.{◌≡◌, ◌≢◌, ℕ, ◌^◌, ◌<◌, ◌≤◌, ◌==◌, Bool, true, false, List, [], ◌∷◌, ◌++◌, length, Option, Some, option_map, is_some, IsSome, IsTrue}
+use Rattle.std.specs.List.{list_any}
 use Rattle.mc_outside.specs.Bytes.{Rose}
 
 -- one link: the bytes received, the bytes sent, and whether it was read to its end
@@ -22,6 +23,8 @@ pub record LinkView : Type 0 where
   pub over : Bool
   -- how often a call failed
   pub faults : ℕ
+  -- the numbers, from 0, of the links that come through the operator's door, where they are told; no call changes them
+  pub doors : Option (List ℕ)
 
 -- the bytes sent over all links, in order
 abbrev pub all_sent : List Session → List ℕ
@@ -69,6 +72,10 @@ after_send bytes v = record v { sessions = option_map (on_last (send bytes)) v.s
 -- the standing link was read to its end
 abbrev pub after_eof : LinkView → LinkView
 after_eof v = record v { sessions = option_map (on_last ended) v.sessions; at_end = true }
+
+-- whether the link that was taken last came through the operator's door, where that is told
+abbrev pub IsWhose : LinkView → Bool → Type 0
+IsWhose v door = (ds : List ℕ) (ss : List Session) (s : Session) → v.doors ≡ Some ds → v.sessions ≡ Some (ss ++ s ∷ []) → door ≡ list_any (λ n. n == length ss) ds
 
 -- nothing but the count of faults changed, which rose
 pub record Failed (before after : LinkView) : Type 0 where

@@ -15,7 +15,7 @@ abbrev pub silent_disk : Silent → DiskView
 silent_disk m = record { contents = None; moment = 0; leaves = λ _. ⊥; pairs = λ _ _ _. ⊥; faults = min m.disk_faults (2 ^ 64 - 1); aside = [] }
 
 abbrev pub silent_link : Silent → LinkView
-silent_link m = record { sessions = None; said = None; readings = None; stands = m.stands; at_end = m.at_end; over = m.over; faults = min m.link_faults (2 ^ 64 - 1) }
+silent_link m = record { sessions = None; said = None; readings = None; stands = m.stands; at_end = m.at_end; over = m.over; faults = min m.link_faults (2 ^ 64 - 1); doors = None }
 
 pub record SilentDiskMoved (a b : Silent) : Type 0 where
   pub faults : a.disk_faults ≤ b.disk_faults

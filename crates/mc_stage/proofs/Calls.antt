@@ -19,7 +19,7 @@ then t p n = record t { base = p.first; log = p.calls; faults = n }
 
 module _ (t : Trace) (p : Played) (n : ℕ) (same : p ≡ here t) where
   pub failed_moved : t.faults ≤ n → DiskMoved t (then t p n)
-  failed_moved le = subst (λ (q : Played). DiskMoved t (then t q n)) (sym same) (record { base = refl; more = []; log = sym (append-nil t.log); kind = tt; faults = le; said = refl; readings = refl; link_faults = refl; stands = refl; over = refl })
+  failed_moved le = subst (λ (q : Played). DiskMoved t (then t q n)) (sym same) (record { base = refl; more = []; log = sym (append-nil t.log); kind = tt; faults = le; said = refl; readings = refl; link_faults = refl; stands = refl; over = refl; doors = refl })
 
   pub failed_torn : (place k : ℕ) → Follows (Torn place k) (disk_of t) (disk_of (then t p n))
   failed_torn place k = subst (λ (q : Played). Follows (Torn place k) (disk_of t) (disk_of (then t q n))) (sym same) (λ c l. (c, l, torn_none place k c))
@@ -39,7 +39,7 @@ module _ (t : Trace) (e : Entry) (kind : IsDiskEntry e) where
   next = then t (push_call e (here t)) t.faults
 
   one_moved : DiskMoved t next
-  one_moved = record { base = refl; more = e ∷ []; log = refl; kind = (kind, tt); faults = omega arith; said = refl; readings = refl; link_faults = refl; stands = refl; over = refl }
+  one_moved = record { base = refl; more = e ∷ []; log = refl; kind = (kind, tt); faults = omega arith; said = refl; readings = refl; link_faults = refl; stands = refl; over = refl; doors = refl }
 
   whole : ◌≡◌ {1} {A = Model} (model next) (step e (model t))
   whole = run-append t.log (e ∷ []) (start t.base)

@@ -4,3 +4,4 @@ pub mod Links
 pub mod Plays
 pub mod Calls
 pub mod LinkCalls
+pub mod Doors

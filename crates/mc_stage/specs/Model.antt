@@ -61,6 +61,8 @@ pub record Trace : Type 0 where
   pub link_faults : ℕ
   pub stands : Bool
   pub over : Bool
+  -- the numbers of the links that come through the operator's door
+  pub doors : List ℕ
 
 abbrev pub model_at : ℕ → Trace → Model
 model_at k t = run (take k t.log) (start t.base)
@@ -91,6 +93,7 @@ link_of t = record {
   at_end = last_to_end (model t).sessions;
   over = t.over;
   faults = min t.link_faults (2 ^ 64 - 1);
+  doors = Some t.doors;
 }
 
 -- calls of Disk, which leave the links
@@ -123,6 +126,7 @@ pub record DiskMoved (a b : Trace) : Type 0 where
   pub link_faults : b.link_faults ≡ a.link_faults
   pub stands : b.stands ≡ a.stands
   pub over : b.over ≡ a.over
+  pub doors : b.doors ≡ a.doors
 
 -- Link alone worked
 pub record LinkMoved (a b : Trace) : Type 0 where
@@ -144,4 +148,4 @@ LinkFailed a b = b ≡ record a { link_faults = b.link_faults }
 
 -- these contents, synced, and no call made
 abbrev pub untouched : List ℕ → Trace
-untouched contents = record { base = contents; log = []; faults = 0; said = []; readings = Some []; link_faults = 0; stands = false; over = false }
+untouched contents = record { base = contents; log = []; faults = 0; said = []; readings = Some []; link_faults = 0; stands = false; over = false; doors = [] }

@@ -22,6 +22,7 @@ trace_of s = record {
   link_faults = s.link_faults;
   stands = s.stands;
   over = s.over;
+  doors = s.doors.items;
 }
 
 pub sent_is : (t : Trace) (ss : List Session) → (link_of t).sessions ≡ Some ss → (disk_of t).aside ≡ all_sent ss

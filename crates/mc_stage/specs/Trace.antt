@@ -186,7 +186,7 @@ disk_keeps a b m =
     let whole = model_more a b m.more m.base m.log in
     let same = keeps_link m.more (model a) m.kind in
     let e1 : (model b).sessions ≡ (model a).sessions = ap (λ (n : Model). n.sessions) whole ∙ same.sessions in
-    λ i. record { sessions = Some (e1 i); said = Some (m.said i); readings = m.readings i; stands = m.stands i && is_taken (e1 i); at_end = last_to_end (e1 i); over = m.over i; faults = min (m.link_faults i) (2 ^ 64 - 1) }
+    λ i. record { sessions = Some (e1 i); said = Some (m.said i); readings = m.readings i; stands = m.stands i && is_taken (e1 i); at_end = last_to_end (e1 i); over = m.over i; faults = min (m.link_faults i) (2 ^ 64 - 1); doors = Some (m.doors i) }
 
 pub link_keeps : (a b : Trace) → LinkMoved a b → LinkKeeps (disk_of a) (disk_of b)
 link_keeps a b m = record {
@@ -240,7 +240,7 @@ link_goes a b m = record {
 }
 
 pub disk_none : (a : Trace) → DiskMoved a a
-disk_none a = record { base = refl; more = []; log = sym (append-nil a.log); kind = tt; faults = omega arith; said = refl; readings = refl; link_faults = refl; stands = refl; over = refl }
+disk_none a = record { base = refl; more = []; log = sym (append-nil a.log); kind = tt; faults = omega arith; said = refl; readings = refl; link_faults = refl; stands = refl; over = refl; doors = refl }
 
 pub disk_then : (a b c : Trace) → DiskMoved a b → DiskMoved b c → DiskMoved a c
 disk_then a b c m n = record {
@@ -254,6 +254,7 @@ disk_then a b c m n = record {
   link_faults = n.link_faults ∙ m.link_faults;
   stands = n.stands ∙ m.stands;
   over = n.over ∙ m.over;
+  doors = n.doors ∙ m.doors;
 }
 
 pub link_none : (a : Trace) → LinkMoved a a

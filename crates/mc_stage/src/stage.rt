@@ -1,4 +1,6 @@
 ghost use Rattle.std.specs.Prelude.{◌≡◌, ◌+◌, ◌-◌, ◌≤◌, ◌^◌, ◌*◌, ◌%◌, min, length, take, drop, IfOk, if◌then◌else◌};
+ghost use Rattle.std.specs.Prelude.{◌==◌};
+ghost use Rattle.std.specs.List.{list_any};
 ghost use Rattle.mc_stage.specs.Scenario.{without_empty, first_link, links_of};
 ghost use Rattle.mc_stage.specs.Image.{image_from, fill};
 
@@ -7,7 +9,7 @@ use crate::pieces::{Pieces, copy_part};
 use crate::plan::Plan;
 use crate::tape::Tape;
 use mc_base::{List, Moment, NoMemory};
-use mc_outside::{Disk, DiskFault, Link, LinkFault, Outside};
+use mc_outside::{Disk, DiskFault, Doors, Link, LinkFault, Outside};
 use std::alloc::Global;
 
 /// The calls that shall fail, by number. Fallible calls of Disk, and apart from them of Link, are
@@ -39,6 +41,8 @@ pub struct Stage {
     pub(crate) clock: Clock,
     pub(crate) given: Vec<Moment>,
     pub(crate) lost: bool,
+    /// The numbers of the links that come through the operator's door.
+    pub(crate) doors: Vec<u32>,
 }
 
 /// One fault more; the count stops at its last value.
@@ -162,6 +166,7 @@ impl Stage {
             clock,
             given: Vec::new(alloc),
             lost: false,
+            doors: Vec::new(alloc),
         })
     }
 
@@ -203,6 +208,15 @@ impl Stage {
             return Ok(bytes);
         }
         filled(self.alloc, choice, self.tape.bytes(), self.tape.marks())
+    }
+
+    /// The same stage, whose links of these numbers, from 0, come through the operator's door.
+    pub fn through_door(mut self, doors: Vec<u32>) -> Stage
+        ensures trace { trace_of result ≡ record (trace_of self) { doors = doors.items } }
+        ensures scenario { scenario_of result ≡ scenario_of self }
+    {
+        self.doors = doors;
+        self
     }
 
     /// The bytes sent on one link, numbered from 0; None exactly where fewer links were taken.
@@ -580,6 +594,25 @@ impl Link for Stage {
         }
         reading
     }
+}
+
+impl Doors for Stage {
+    ghost use Rattle.std.specs.Prelude.{IsTrue};
+    ghost use Rattle.mc_outside.specs.LinkView.{IsWhose};
+    ghost use Rattle.mc_stage.specs.Stage.{link_view};
+
+    fn is_operators(&self) -> bool
+        ensures { IsWhose (link_view self.now) result }
+    {
+        has_last(&self.doors, self.tape.links())
+    }
+}
+
+/// Whether the number of the last of so many links is among these.
+fn has_last(doors: &[u32], links: u64) -> bool
+    ensures { result ≡ list_any (λ n. n + 1 == links) doors.now }
+{
+    doors.iter().any(|n| u64::from(*n) + 1 == links)
 }
 
 impl Outside for Stage {

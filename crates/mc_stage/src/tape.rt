@@ -82,7 +82,7 @@ fn marked(alloc: Global, old: &[bool], at: usize, count: usize) -> Result<Vec<bo
 }
 
 impl Tape {
-    ghost use Rattle.std.specs.Prelude.{List, [], ◌∷◌, ◌++◌, IsTrue, slice_get, map, option_map};
+    ghost use Rattle.std.specs.Prelude.{List, [], ◌∷◌, ◌++◌, IsTrue, length, slice_get, map, option_map};
     ghost use Rattle.mc_outside.specs.LinkView.{Session};
     ghost use Rattle.mc_stage.specs.Model.{Put, Cut, Sync, Take, Hear, End, Send, last_to_end};
     ghost use Rattle.mc_stage.specs.Tape.{Played, played, push_call, sent_of};
@@ -134,6 +134,13 @@ impl Tape {
             Some(sent) => Some(sent.as_slice()),
             None => None,
         }
+    }
+
+    /// How many links were taken.
+    pub(crate) fn links(&self) -> u64
+        ensures { result ≡ length (played self.now).sessions }
+    {
+        self.sent.len() as u64
     }
 
     /// Whether the last link was read to its end.

@@ -47,7 +47,7 @@ gated_long before (e ∷ es) =
 pub body_long : (h : List Entry) → length (body h) + 1 ≡ size h
 body_long h = omega (arith, length-append header (gated [] h), header_long, gated_long [] h)
 
-gated_more : (before h : List Entry) (e : Entry) → gated before (h ++ e ∷ []) ≡ gated before h ++ 1 ∷ framed (before ++ h) e
+pub gated_more : (before h : List Entry) (e : Entry) → gated before (h ++ e ∷ []) ≡ gated before h ++ 1 ∷ framed (before ++ h) e
 gated_more before [] e = append-nil (1 ∷ framed before e) ∙ ap (λ (b : List Entry). 1 ∷ framed b e) (sym (append-nil before))
 gated_more before (x ∷ h) e =
     ap (λ (l : List ℕ). 1 ∷ (framed before x ++ l)) (gated_more (before ++ x ∷ []) h e ∙ ap (λ (b : List Entry). gated (before ++ x ∷ []) h ++ 1 ∷ framed b e) (append_assoc before (x ∷ []) h))

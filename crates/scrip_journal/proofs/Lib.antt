@@ -1,6 +1,7 @@
 pub mod Bytes
 pub mod Bodies
 pub mod Steps
+pub mod BatchSteps
 pub mod Founding
 pub mod Nexts
 pub mod Unique

@@ -8,3 +8,4 @@ pub mod Rests
 pub mod Answers
 pub mod Causes
 pub mod Founds
+pub mod Batches

@@ -64,7 +64,50 @@ pub(crate) fn put_block(
     ensures block { take result.0 buf.new.items
         ≡ to_be_bytes w32 (length (payload (entry r.now))) ++ (payload (entry r.now) ++ (tail_by switched (known_chain result.1) ++ 0 ∷ [])) }
 {
+    payloads_are_short();
     write_block(buf, r, switched, before)
+}
+
+/// Opens the gate at a place of the buffer, where the entries before end, and writes the block of an entry behind it.
+/// Answers how many bytes the block has, and the chain of the entries up to and with this one, where that of those before
+/// is known.
+pub(crate) fn put_block_at(
+    buf: &mut Vec<u8>,
+    at: usize,
+    r: &Record<'_>,
+    switched: bool,
+    before: Option<[u8; 32]>,
+) -> (usize, Option<[u8; 32]>)
+    requires room { at + 1 + (length (payload (entry r.now)) + tail_bytes switched + FRAME) ≤ length buf.old.items }
+    requires fits { Fits (entry r.now) }
+    ensures buffer { length buf.new.items ≡ length buf.old.items }
+    ensures chain { result.1 ≡ chain_with before (payload (entry r.now)) }
+    ensures size { result.0 ≡ length (payload (entry r.now)) + tail_bytes switched + FRAME }
+    ensures block { take (at + 1 + result.0) buf.new.items
+        ≡ take at buf.old.items ++ (1 ∷ (to_be_bytes w32 (length (payload (entry r.now))) ++ (payload (entry r.now) ++ (tail_by switched (known_chain result.1) ++ 0 ∷ [])))) }
+{
+    write_block_at(buf, at, r, switched, before)
+}
+
+/// Opens a gate, and writes the block of an entry behind it.
+fn write_block_at(
+    out: &mut [u8],
+    at: usize,
+    r: &Record<'_>,
+    switched: bool,
+    before: Option<[u8; 32]>,
+) -> (usize, Option<[u8; 32]>)
+    requires room { at + 1 + (length (payload (entry r.now)) + tail_bytes switched + FRAME) ≤ length out.old }
+    requires fits { Fits (entry r.now) }
+    ensures len { length out.new ≡ length out.old }
+    ensures chain { result.1 ≡ chain_with before (payload (entry r.now)) }
+    ensures size { result.0 ≡ length (payload (entry r.now)) + tail_bytes switched + FRAME }
+    ensures block { take (at + 1 + result.0) out.new
+        ≡ take at out.old ++ (1 ∷ (to_be_bytes w32 (length (payload (entry r.now))) ++ (payload (entry r.now) ++ (tail_by switched (known_chain result.1) ++ 0 ∷ [])))) }
+{
+    put_at(out, at, &[1]);
+    let (_, rest) = out.split_at_mut(at + 1);
+    write_block(rest, r, switched, before)
 }
 
 /// Writes the block of an entry at the front.
@@ -74,12 +117,12 @@ fn write_block(
     switched: bool,
     before: Option<[u8; 32]>,
 ) -> (usize, Option<[u8; 32]>)
-    requires buffer { length out.old ≡ BUFFER }
+    requires room { length (payload (entry r.now)) + tail_bytes switched + FRAME ≤ length out.old }
     requires fits { Fits (entry r.now) }
-    ensures buffer { length out.new ≡ BUFFER }
+    ensures len { length out.new ≡ length out.old }
     ensures chain { result.1 ≡ chain_with before (payload (entry r.now)) }
     ensures size { result.0 ≡ length (payload (entry r.now)) + tail_bytes switched + FRAME }
-    ensures within { result.0 ≤ BUFFER }
+    ensures within { result.0 ≤ length out.old }
     ensures block { take result.0 out.new
         ≡ to_be_bytes w32 (length (payload (entry r.now))) ++ (payload (entry r.now) ++ (tail_by switched (known_chain result.1) ++ 0 ∷ [])) }
 {
@@ -93,9 +136,9 @@ fn write_block(
 
 /// Writes the payload of an entry at the front. Answers its length.
 fn put_payload(out: &mut [u8], r: &Record<'_>) -> usize
-    requires buffer { length out.old ≡ BUFFER - 4 }
+    requires room { length (payload (entry r.now)) ≤ length out.old }
     requires fits { Fits (entry r.now) }
-    ensures len { length out.new ≡ BUFFER - 4 }
+    ensures len { length out.new ≡ length out.old }
     ensures size { result ≡ length (payload (entry r.now)) }
     ensures short { result < PAYLOAD_BOUND }
     ensures payload { take result out.new ≡ payload (entry r.now) }
@@ -106,9 +149,8 @@ fn put_payload(out: &mut [u8], r: &Record<'_>) -> usize
 
 /// Writes a chain where a Switch stands, and a closed gate, behind so many bytes.
 fn put_tail(out: &mut [u8], at: usize, switched: bool, chain: &[u8; 32])
-    requires buffer { length out.old ≡ BUFFER - 4 }
-    requires short { at < PAYLOAD_BOUND }
-    ensures len { length out.new ≡ BUFFER - 4 }
+    requires room { at + tail_bytes switched + 1 ≤ length out.old }
+    ensures len { length out.new ≡ length out.old }
     ensures written { take (at + tail_bytes switched + 1) out.new ≡ take at out.old ++ (tail_by switched chain.now ++ 0 ∷ []) }
 {
     if switched {

@@ -6,10 +6,12 @@
 //! leaves the disk's count of faults as it was.
 #![tactic(auto)]
 
+mod batch;
 mod book;
 mod chain;
 mod cursor;
 mod ending;
+mod far;
 mod fault;
 mod found;
 mod journal;
@@ -20,6 +22,7 @@ mod replay;
 mod staged;
 mod switching;
 
+pub use batch::{Batch, Receipts};
 pub use book::found_book;
 pub use cursor::FIRST_GATE;
 pub use ending::ReplayFault;

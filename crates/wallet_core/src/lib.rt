@@ -12,6 +12,7 @@ mod checking;
 mod clock;
 mod contents;
 mod entering;
+mod far;
 mod found;
 mod links;
 mod opening;
