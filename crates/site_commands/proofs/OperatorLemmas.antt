@@ -23,7 +23,8 @@ use Rattle.house_core.specs.Bench.{house_time, limits_of}
 use Rattle.house_core.specs.House.{HouseRepresents, HouseRests, house_rests_none, IfRefused, KeepsTime, OfHouse, CountsFaults, outcome_disk}
 use Rattle.house_core.specs.Refusing.{IsAmong}
 use Rattle.house_core.proofs.HouseDisk.{house_keeps}
-use Rattle.house_state.specs.Learning.{Test}
+use Rattle.mc_records.specs.Following.{AllFollowBy}
+use Rattle.house_state.specs.Learning.{Test, Passes, AllPass, MayEnter}
 use Rattle.house_state.specs.Trade.{TradeView}
 use Rattle.house_core.specs.Tasks.{Task, Add, Stays, Refuse, Does, LeavesBy, Performs}
 use Rattle.millicent_http.proofs.AsideLemmas.{TellsAside, SentNoMore, no_more_then, no_more_still, taken_quiet, aside_still, quiet_link}
@@ -35,6 +36,11 @@ use Rattle.site_commands.specs.Endings.{outcome_status}
 use Rattle.site_commands.specs.Serving.{EncodesLawful}
 use Rattle.site_commands.specs.Operator.{DidBy, OperateImage, OperatePair, IsReady, OperateCauses, Operated, Opened, Unread}
 use Rattle.site_commands.proofs.ServedLemmas.{stands_lawful}
+
+-- entries that may be entered pass the trade's own test
+pub all_passed : (passes : Test) (before es : History) → AllFollowBy (MayEnter passes full) before es → AllFollowBy (Passes passes) before es
+all_passed passes before [] follow = tt
+all_passed passes before (e ∷ es) follow = (follow.0.passed, all_passed passes (before ++ e ∷ []) es follow.1)
 
 lawful_in : {O T : Type 0} (disk : O → DiskView) (trade : T → TradeView) (x : HouseView O T) (h : History) → limits_of x.bench ≡ full → HouseRepresents disk trade x h → EncodesLawful (disk x.journal.disk) h
 lawful_in disk trade x h limits st = stands_lawful disk trade x h st (subst (λ (l : Limits). IsLawful l h) limits st.house.represents.state.lawful)
@@ -164,11 +170,12 @@ unchanged before task h (ends.Refused f) image is = is
 
 -- nothing was done to the book
 pub unread : {O T : Type 0} (link : O → LinkView) (disk : O → DiskView) (trade : T → TradeView) (passes : Test) (kind : ℕ) (operation : OperationView) (bytes : List ℕ) (a : O) (x y : HouseView O T) (status : Status) → TellsAside link (λ o. (disk o).aside) → Opened link disk trade passes kind bytes a x → Worked link disk trade x y
-    → ((status ≡ ends.LinkFault) × LosesInput operation.input (link x.journal.disk) (link y.journal.disk)) ⊎ ((status ≡ ends.NoMemory) × (link y.journal.disk ≡ link x.journal.disk)) → Unread link disk kind operation bytes a status y.journal.disk
+    → ((status ≡ ends.LinkFault) × LosesInput operation.input (link x.journal.disk) (link y.journal.disk)) ⊎ ((status ≡ ends.NoMemory) × (link y.journal.disk ≡ link x.journal.disk)) → Unread link disk passes kind operation bytes a status y.journal.disk
 unread link disk trade passes kind operation bytes a x y status tells at worked lost = record {
   history = at.house.history;
   stands = at.house.of_bytes;
   of_kind = at.house.of_kind;
+  passed = all_passed passes [] at.house.history at.house.follow;
   left = lawful_in disk trade y at.house.history (worked.limits' ∙ at.house.limits') (worked.represents at.house.history at.house.house);
   pairs = ran_weaker (disk a) (disk y.journal.disk) _ _ (before_pairs link disk trade a x y tells at.read at.link' worked).0 (λ i s p. (unchanged (disk a) Stays at.house.history status i (inl p.0), p.1));
   lost = ⊎_elim
@@ -178,7 +185,7 @@ unread link disk trade passes kind operation bytes a x y status tells at worked 
 
 -- memory was refused before anything was done
 pub unread_at_once : {O T : Type 0} (link : O → LinkView) (disk : O → DiskView) (trade : T → TradeView) (passes : Test) (kind : ℕ) (operation : OperationView) (bytes : List ℕ) (a : O) (x : HouseView O T) → TellsAside link (λ o. (disk o).aside) → LinkKeeps (disk x.journal.disk) (disk x.journal.disk) → Opened link disk trade passes kind bytes a x
-    → Unread link disk kind operation bytes a ends.NoMemory x.journal.disk
+    → Unread link disk passes kind operation bytes a ends.NoMemory x.journal.disk
 unread_at_once link disk trade passes kind operation bytes a x tells keeps at =
     unread link disk trade passes kind operation bytes a x x ends.NoMemory tells at (by_links link disk trade x x (no_more_still (link x.journal.disk) (link x.journal.disk) refl) keeps (house_rests_none x)) (inr (refl, refl))
 
@@ -216,14 +223,15 @@ leaves_pair tells before Stays out line h aside image sent same p = (unchanged b
 leaves_pair tells before (Refuse f) out line h aside image sent same p = (unchanged before (Refuse f) h (outcome_status out line) image (inr p.0), λ t. p.1 ∙ same t)
 
 -- an operation that the book's house was ready for
-pub operated : {O T : Type 0} (link : O → LinkView) (disk : O → DiskView) (trade : T → TradeView) (kind : ℕ) (operation : OperationView) (bytes input line : List ℕ) (a : O) (y : HouseView O T) (h : History) (out : Outcome O T (Unit {0}))
-    → Ready link disk trade kind operation bytes input a y h → ((o : O) → IsDisk (disk o)) → link (outcome_disk out) ≡ link y.journal.disk → OfHouse (KeepsTime y) out
+pub operated : {O T : Type 0} (link : O → LinkView) (disk : O → DiskView) (trade : T → TradeView) (passes : Test) (kind : ℕ) (operation : OperationView) (bytes input line : List ℕ) (a : O) (y : HouseView O T) (h : History) (out : Outcome O T (Unit {0}))
+    → AllPass passes h → Ready link disk trade kind operation bytes input a y h → ((o : O) → IsDisk (disk o)) → link (outcome_disk out) ≡ link y.journal.disk → OfHouse (KeepsTime y) out
     → Performs disk trade (operation.asks input h (house_time y.bench)) (λ task g answer. operation.says input h task line) (limits_of y.bench) y.journal.disk h out
-    → Operated link disk kind operation bytes a (outcome_status out line) (outcome_disk out)
-operated link disk trade kind operation bytes input line a y h out at is_disk same keeps does = record {
+    → Operated link disk passes kind operation bytes a (outcome_status out line) (outcome_disk out)
+operated link disk trade passes kind operation bytes input line a y h out pass at is_disk same keeps does = record {
   history = h;
   stands = at.of_bytes;
   of_kind = at.of_kind;
+  passed = pass;
   input = input;
   taken = at.taken;
   takes = at.takes;

@@ -10,7 +10,7 @@ use Rattle.millicent_http.specs.declared.clock.Clock.TheVariants.{OfLinks}
 use Rattle.millicent_http.specs.Courses.{AreRead, with_readings}
 use Rattle.house_core.specs.HouseView.{HouseView}
 use Rattle.house_core.specs.Refusing.{IsAmong}
-use Rattle.house_state.specs.Learning.{Test}
+use Rattle.house_state.specs.Learning.{Test, AllPass}
 use Rattle.house_state.specs.Trade.{TradeView}
 use Rattle.house_opening.specs.Opening.{OpenedFor}
 use Rattle.house_core.specs.Tasks.{Task, Add, Stays, after, IsDoable, IsRefused}
@@ -54,10 +54,11 @@ pub record Opened {O T : Type 0} (link : O → LinkView) (disk : O → DiskView)
 
 -- The book encoded a history of a site of this kind; the operation's input was read, and then the clock, once; and what the
 -- operation asks of the history was done, at the house time.
-pub record Operated {O : Type 0} (link : O → LinkView) (disk : O → DiskView) (kind : ℕ) (operation : OperationView) (bytes : List ℕ) (a : O) (status : Status) (b : O) : Type 0 where
+pub record Operated {O : Type 0} (link : O → LinkView) (disk : O → DiskView) (passes : Test) (kind : ℕ) (operation : OperationView) (bytes : List ℕ) (a : O) (status : Status) (b : O) : Type 0 where
   pub history : History
   pub stands : Encodes history bytes
   pub of_kind : site_kind history ≡ Some kind
+  pub passed : AllPass passes history
   pub input : List ℕ
   pub taken : LinkView
   pub takes : TakesInput operation.input (link a) input taken
@@ -70,21 +71,22 @@ pub record Operated {O : Type 0} (link : O → LinkView) (disk : O → DiskView)
   pub pairs : Ran (disk a) (disk b) (OperatePair (IsSome (link a).sessions) (disk a) task history status)
 
 -- The book encoded a history of a site of this kind, and still does; the input was not read.
-pub record Unread {O : Type 0} (link : O → LinkView) (disk : O → DiskView) (kind : ℕ) (operation : OperationView) (bytes : List ℕ) (a : O) (status : Status) (b : O) : Type 0 where
+pub record Unread {O : Type 0} (link : O → LinkView) (disk : O → DiskView) (passes : Test) (kind : ℕ) (operation : OperationView) (bytes : List ℕ) (a : O) (status : Status) (b : O) : Type 0 where
   pub history : History
   pub stands : Encodes history bytes
   pub of_kind : site_kind history ≡ Some kind
+  pub passed : AllPass passes history
   pub left : EncodesLawful (disk b) history
   pub pairs : Ran (disk a) (disk b) (OperatePair (IsSome (link a).sessions) (disk a) Stays history status)
   pub lost : ((status ≡ ends.LinkFault) × LosesInput operation.input (link a) (link b)) ⊎ ((status ≡ ends.NoMemory) × (link b ≡ link a))
 
 -- what became of a book that was opened as that of a site of a kind
-abbrev pub OperatesOpened : {O : Type 0} → (O → LinkView) → (O → DiskView) → ℕ → OperationView → List ℕ → O → Status → O → Type 0
-OperatesOpened link disk kind operation bytes a status b = Unread link disk kind operation bytes a status b ⊎ Operated link disk kind operation bytes a status b
+abbrev pub OperatesOpened : {O : Type 0} → (O → LinkView) → (O → DiskView) → Test → ℕ → OperationView → List ℕ → O → Status → O → Type 0
+OperatesOpened link disk passes kind operation bytes a status b = Unread link disk passes kind operation bytes a status b ⊎ Operated link disk passes kind operation bytes a status b
 
 -- how an operation to the book of a site of a kind ended, on an outside whose disk had these bytes
 abbrev pub OperatesBook : {O : Type 0} → (O → LinkView) → (O → DiskView) → Test → ℕ → OperationView → List ℕ → O → Status → O → Type 0
-OperatesBook link disk passes kind operation bytes a status b = NotOpened link disk passes kind bytes a status b ⊎ OperatesOpened link disk kind operation bytes a status b
+OperatesBook link disk passes kind operation bytes a status b = NotOpened link disk passes kind bytes a status b ⊎ OperatesOpened link disk passes kind operation bytes a status b
 
 -- ---- why it ended so, whatever the disk and the links tell
 

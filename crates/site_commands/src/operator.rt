@@ -50,7 +50,7 @@ fn operate_house<O: Outside, T: Trade, C: OperatorCommand<T>>(
         house.journal.disk result.1 result.0 }
     ensures operated { (kind : ℕ) (a : O) (x : Items ℕ)
         → Opened O.link O.disk T.trade T.passes kind x a house
-        → OperatesOpened O.link O.disk kind (C.operation command.now) x a result.1 result.0 }
+        → OperatesOpened O.link O.disk T.passes kind (C.operation command.now) x a result.1 result.0 }
 {
     let Ok(mut line) = command.begin(alloc, &house.name()) else {
         return (house.close(), Status::NoMemory);

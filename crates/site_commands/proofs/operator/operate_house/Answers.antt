@@ -1,4 +1,4 @@
-use Rattle.std.proofs.Common.{◌≡◌, ℕ, List, inl, inr, refl, ap, ◌∙◌, sym, subst}
+use Rattle.std.proofs.Common.{◌≡◌, ℕ, List, [], inl, inr, refl, ap, ◌∙◌, sym, subst}
 use Rattle.mc_outside.specs.LinkView.{LinkView}
 use Rattle.command_status.specs.declared.status.Status.TheVariants as ends
 use Rattle.millicent_http.specs.Inputs.{TakesInput, LosesInput}
@@ -6,7 +6,7 @@ use Rattle.millicent_http.proofs.InputLemmas.{loses_rose}
 use Rattle.millicent_http.proofs.AsideLemmas.{no_more_still, not_taken_quiet}
 use Rattle.house_core.specs.House.{outcome_disk}
 use Rattle.site_commands.specs.Operator.{IsReady}
-use Rattle.site_commands.proofs.OperatorLemmas.{operated, operated_causes, ready_by, by_links, unread, unread_at_once}
+use Rattle.site_commands.proofs.OperatorLemmas.{all_passed, operated, operated_causes, ready_by, by_links, unread, unread_at_once}
 use Rattle.site_commands.proofs.operator.operate_house.Goals as goal
 
 pub returns-in_default-clause-causes : goal.returns-in_default-clause-causes
@@ -72,5 +72,5 @@ returns-clause-operated g c kind a x at =
     (g.met.O.Outside.link_keeps _ _ c.input_of.ensures.moved.0) c.input_of.ensures.moved.1 (g.met.O.Outside.link_keeps _ _ (g.met.O.Link.link_goes_on _ _ _ c.input_of.ensures.moved.0 raised.moved)) (g.met.O.Outside.link_keeps _ _ raised.moved)
     raised.stands raised.limits raised.read raised.rest raised.time in
     rw (c.closed_with.ensures.out, c.closed_with.ensures.status, c.of.ensures)
-    (inr (operated g.O.Link.link g.O.Disk.disk g.T.Trade.trade kind operation x input c.carry_out-outcome.new.line.items a y at.house.history c.carry_out-outcome.result ready g.met.O.Disk.is_disk (g.met.O.Outside.disk_keeps _ _ c.carry_out-outcome.ensures.back.moved')
+    (inr (operated g.O.Link.link g.O.Disk.disk g.T.Trade.trade g.T.Trade.passes kind operation x input c.carry_out-outcome.new.line.items a y at.house.history c.carry_out-outcome.result (all_passed g.T.Trade.passes [] at.house.history at.house.follow) ready g.met.O.Disk.is_disk (g.met.O.Outside.disk_keeps _ _ c.carry_out-outcome.ensures.back.moved')
     c.carry_out-outcome.ensures.back.keeps (c.carry_out-outcome.ensures.exact at.house.history ready.house ready.limits' begun)))
