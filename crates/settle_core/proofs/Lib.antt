@@ -11,4 +11,5 @@ pub mod TaskLaws
 pub mod StatementTexts
 pub mod LineParts
 pub mod NoteOrders
+pub mod LineLaws
 pub mod Rows

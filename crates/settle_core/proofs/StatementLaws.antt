@@ -1,5 +1,5 @@
 -- What was stated for a series stays what was redeemed of it.
-use Rattle.std.proofs.Common.{◌≡◌, ℕ, ◌≤◌, ◌<◌, Bool, true, false, cond, not, List, [], ◌∷◌, ◌++◌, Option, Some, None, Ok, refl, sym, ap, subst, ◌∙◌, append-nil, arith, bytes_eq, eqb, find}
+use Rattle.std.proofs.Common.{◌≡◌, ℕ, ◌≤◌, ◌<◌, Bool, true, false, cond, not, List, [], ◌∷◌, ◌++◌, Option, Some, None, Ok, refl, sym, ap, subst, ◌∙◌, append-nil, append_assoc, arith, bytes_eq, eqb, find}
 use Rattle.std.specs.Prelude.{filter, filter_map}
 use Rattle.std.specs.List.{cons_option, AllByRecursion}
 use Rattle.std.proofs.lemmas.Bool.{eqb-true, leb-false, and_parts}
@@ -133,3 +133,19 @@ all_follow limits (e ∷ es) lawful = lawful
 
 pub statements_keep : (limits : Limits) (h : History) → IsSettled limits h → StatementsKeep h
 statements_keep limits h book = walk_both StatementsKeep (MayFollow limits) IsInOrder (step limits) [] h (all_follow limits h book.lawful) book.in_order tt
+
+-- ---- whatever comes behind
+
+behind : (limits : Limits) (before h more : History) → AllFollow limits before (h ++ more) → AllFollow limits (before ++ h) more
+behind limits before [] more follow = subst (λ (l : History). AllFollow limits l more) (sym (append-nil before)) follow
+behind limits before (e ∷ es) more follow = subst (λ (l : History). AllFollow limits l more) (append_assoc before (e ∷ []) es) (behind limits (before ++ e ∷ []) es more follow.1)
+
+stand_on : (limits : Limits) (cs : List Claim) (h more : History) → AllFollow limits h more → AllByRecursion (StillStands h) cs → AllByRecursion (StillStands (h ++ more)) cs
+stand_on limits cs h [] follow kept = subst (λ (l : History). AllByRecursion (StillStands l) cs) (sym (append-nil h)) kept
+stand_on limits cs h (e ∷ es) follow kept =
+    subst (λ (l : History). AllByRecursion (StillStands l) cs) (append_assoc h (e ∷ []) es)
+    (stand_on limits cs (h ++ e ∷ []) es follow.1 (all_weaker (StillStands h) (StillStands (h ++ e ∷ [])) (λ c. stands_on limits h e c follow.0) cs kept))
+
+pub statements_stay_behind : (limits : Limits) (h more : History) → IsSettled limits h → IsLawful limits (h ++ more) → AllByRecursion (StillStands (h ++ more)) (statements h)
+statements_stay_behind limits h more book lawful =
+    stand_on limits (statements h) h more (behind limits [] h more (all_follow limits (h ++ more) lawful)) (statements_keep limits h book)

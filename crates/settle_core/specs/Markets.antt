@@ -5,7 +5,8 @@ use Rattle.ledger_model.specs.Histories.{History}
 use Rattle.ledger_model.specs.Houses.{site_name, terms_in}
 use Rattle.ledger_model.specs.Stock.{licence_in}
 use Rattle.settle_core.specs.declared.claim.Payment.{Payment}
-use Rattle.settle_core.specs.Claims.{statement_cert}
+use Rattle.settle_core.specs.Claims.{statement_cert, statement_line}
+use Rattle.settle_core.specs.Statements.{statement_input}
 use Rattle.settle_core.specs.Settlement.{paid_amount, redeemed, sold_under}
 use Rattle.settle_core.specs.Tasks.{claim_at, pay_lines}
 
@@ -24,3 +25,10 @@ IsPaidAt b t issuer epoch v =
     (terms : Issuing) → terms_in v issuer ≡ Some terms → licence_in b (site_name v) ≡ Some terms → series_end terms epoch ≤ t
     → paid_amount b (site_name v) issuer epoch ≡ None
     → pay_lines b t (Ok (record { payment = payment_at v issuer epoch; cert = statement_cert terms (payment_at v issuer epoch) })) ≡ Ok (payment_at v issuer epoch)
+
+-- The same of the line that the vendor says, as the broker reads it.
+abbrev pub IsPaidByLine : History → ℕ → ℕ → ℕ → History → Type 0
+IsPaidByLine b t issuer epoch v =
+    (terms : Issuing) → terms_in v issuer ≡ Some terms → licence_in b (site_name v) ≡ Some terms → series_end terms epoch ≤ t
+    → paid_amount b (site_name v) issuer epoch ≡ None
+    → pay_lines b t (statement_input (statement_line terms (payment_at v issuer epoch))) ≡ Ok (payment_at v issuer epoch)

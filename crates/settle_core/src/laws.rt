@@ -1,6 +1,6 @@
 //! Laws over notes that settle series, each on a function that does nothing.
 
-ghost use Rattle.std.specs.Prelude.{◌≡◌, ◌≤◌, ◌<◌, ◌^◌, ◌++◌, ℕ, codes, List, Some, Ok};
+ghost use Rattle.std.specs.Prelude.{◌≡◌, ◌≤◌, ◌<◌, ◌^◌, ◌++◌, ℕ, codes, length, List, Some, Ok, Err};
 ghost use Rattle.std.specs.List.{AllByRecursion};
 ghost use Rattle.mc_fields.specs.Texts.{IsNumber};
 ghost use Rattle.mc_requests.specs.declared.limits.Limits.{Limits as Bounds};
@@ -12,11 +12,11 @@ ghost use Rattle.settle_core.specs.Claims.{ClaimFits, PaymentFits, claim_text, p
 ghost use Rattle.settle_core.specs.declared.claim.Claim.{Claim};
 ghost use Rattle.settle_core.specs.declared.claim.Payment.{Payment};
 ghost use Rattle.settle_core.specs.declared.claim.Statement.{Statement};
-ghost use Rattle.settle_core.specs.Statements.{StatementFits, statement_text, statement_at};
-ghost use Rattle.settle_core.specs.Settlement.{AreInOrder, IsSettled, IsInOrder, redeemed};
-ghost use Rattle.settle_core.specs.Markets.{IsCovered, IsPaidAt};
+ghost use Rattle.settle_core.specs.Statements.{StatementFits, statement_text, statement_at, statement_input};
+ghost use Rattle.settle_core.specs.Settlement.{AreInOrder, IsSettled, IsInOrder, redeemed, statements};
+ghost use Rattle.settle_core.specs.Markets.{IsCovered, IsPaidAt, IsPaidByLine};
 ghost use Rattle.settle_core.specs.Tasks.{pay_lines, state_lines};
-ghost use Rattle.settle_core.specs.Orders.{PaymentsKeep, StatementsKeep};
+ghost use Rattle.settle_core.specs.Orders.{PaymentsKeep, StillStands, StatementsKeep};
 
 /// The texts of claims and of payments are read as they are spelled, and nothing else is read so.
 pub fn claims_are_read_as_they_are_spelled()
@@ -84,4 +84,26 @@ pub fn statements_are_read_as_they_are_spelled()
         → StatementFits s × (bytes ≡ statement_text s ++ rest) }
     ensures again { (s : Statement) (rest : List ℕ) → StatementFits s
         → statement_at (statement_text s ++ rest) ≡ Some (s, rest) }
+{}
+
+/// What was stated stays what was redeemed of its series in every lawful book that goes on from there, whatever notes come behind.
+#[tactic(auto, using(crate::proofs::StatementLaws::statements_stay_behind))]
+pub fn statements_stay_behind()
+    ensures { (limits : Bounds) (h more : History) → IsSettled limits h → IsLawful limits (h ++ more)
+        → AllByRecursion (StillStands (h ++ more)) (statements h) }
+{}
+
+/// In lawful books of one broker and vendors of which all was handed out, the line that a vendor says of a series is paid as the
+/// broker reads it, where the licence stands, the series has ended, and nothing was paid for it before.
+#[tactic(auto, using(crate::proofs::LineLaws::lines_are_paid))]
+pub fn lines_are_paid()
+    ensures { (limits : Bounds) (b : History) (vs : List History) (t issuer epoch : ℕ)
+        → limits.series ≤ 2 ^ 32 → AreBooks limits b vs → IsHandedOut b vs → IsNumber 255 issuer → epoch < 2 ^ 24
+        → AllByRecursion (IsPaidByLine b t issuer epoch) vs }
+{}
+
+/// A statement has at most 256 bytes, so that a longer input breaks at a line.
+#[tactic(auto, using(crate::proofs::LineLaws::long_breaks))]
+pub fn long_inputs_break()
+    ensures { (bytes : List ℕ) → 256 < length bytes → (line : ℕ) × (statement_input bytes ≡ Err line) }
 {}

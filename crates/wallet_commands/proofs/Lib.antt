@@ -11,3 +11,4 @@ pub mod EndLemmas
 pub mod FoundLemmas
 pub mod LineLemmas
 pub mod HeldLemmas
+pub mod ChangeLaws

@@ -17,7 +17,7 @@ mod taking;
 
 pub use chaining::chain;
 pub use founding::init;
-pub use law::lawful_wallets_are_opened;
+pub use law::{a_piece_is_its_price_and_its_change, lawful_wallets_are_opened};
 pub use listing::{held_lines, list, list_held};
 pub use paying::{pay, retry};
 pub use renewing::renew;

@@ -20,7 +20,7 @@ use Rattle.wallet_proxy.proofs.StepLaws.{item_grows}
 
 -- ---- an entry and its price
 
-settlement_price : (h : History) (t n : ℕ) (p : Pending) (r : Received) → price_told (settlement h t n p r) ≡ paid_by r
+pub settlement_price : (h : History) (t n : ℕ) (p : Pending) (r : Received) → price_told (settlement h t n p r) ≡ paid_by r
 unfolding settlement
 settlement_price h t n p r = go (r.status == 200)
   where

@@ -12,3 +12,5 @@ pub mod ItemLemmas
 pub mod LinkLemmas
 pub mod ProxiedLemmas
 pub mod EndLemmas
+pub mod DoubtLaws
+pub mod TargetLaws

@@ -46,7 +46,7 @@ fits_of p r passes ok = go (r.status == 200) (fits_request p r) (is_proved p r) 
     go true false v is same e = absurd cc
     go false f v is same e = absurd cc
 
-has_price : (p : Pending) (r : Received) → check_of p r ≡ None → (r.status == 200) ≡ true → (price : ℕ) × (price_of r ≡ Some price) × (is_paid_by (option_and_then piece_of p.scrip) price r.change ≡ true)
+pub has_price : (p : Pending) (r : Received) → check_of p r ≡ None → (r.status == 200) ≡ true → (price : ℕ) × (price_of r ≡ Some price) × (is_paid_by (option_and_then piece_of p.scrip) price r.change ≡ true)
 has_price p r passes ok = go (price_of r) refl (fits_of p r passes ok)
   where
     left : (a b : Bool) → (a && b) ≡ true → a ≡ true
@@ -115,7 +115,7 @@ came_grows limits s n p (Err f) told t by = inl (ap (λ (u : ProxyState). u.hist
 grows_not : (s t : ProxyState) → t.history ≡ s.history → Grows s t
 grows_not s t same = record { added = []; grown = same ∙ sym (append-nil s.history); one = tt }
 
-one_settling : (e : Entry) → IsTrue (is_settling e) → IsTrue (is_request e || is_settling e)
+pub one_settling : (e : Entry) → IsTrue (is_settling e) → IsTrue (is_request e || is_settling e)
 one_settling e is = go (is_request e) is
   where
     go : (b : Bool) → IsTrue (is_settling e) → IsTrue (b || is_settling e)
@@ -152,7 +152,7 @@ item_grows b s (refused f closes) told t by = grows_not s t (ap (λ (u : ProxySt
 
 -- ---- what is told as paid for
 
-settled_is : (r : Received) (price : ℕ) (bytes : List ℕ) → contents price bytes ≡ settled_told r → ((r.status == 200) ≡ true) × ((unwrap_or (price_of r) 0 ≡ price) × (r.contents ≡ bytes))
+pub settled_is : (r : Received) (price : ℕ) (bytes : List ℕ) → contents price bytes ≡ settled_told r → ((r.status == 200) ≡ true) × ((unwrap_or (price_of r) 0 ≡ price) × (r.contents ≡ bytes))
 settled_is r price bytes is = go (r.status == 200) refl is
   where
     go : (b : Bool) → (r.status == 200) ≡ b → contents price bytes ≡ cond b (contents (unwrap_or (price_of r) 0) r.contents) (refusal (SiteRefused (refusal_number r.refusal))) → ((r.status == 200) ≡ true) × ((unwrap_or (price_of r) 0 ≡ price) × (r.contents ≡ bytes))
@@ -252,7 +252,7 @@ settles_up limits s n p r (Some f) told t by = ap (λ (u : ProxyState). u.up) by
 settles_up limits s n p r None told t (inl by) = ap (λ (u : ProxyState). u.up) by.2
 settles_up limits s n p r None told t (inr by) = ap (λ (u : ProxyState). u.up) by.1
 
-came_up : (limits : Limits) (s : ProxyState) (n : ℕ) (p : Pending) (came : Result Received Refusal) (told : Told) (t : ProxyState) → CameOf limits s n p came told t → t.up ≡ s.up
+pub came_up : (limits : Limits) (s : ProxyState) (n : ℕ) (p : Pending) (came : Result Received Refusal) (told : Told) (t : ProxyState) → CameOf limits s n p came told t → t.up ≡ s.up
 came_up limits s n p (Ok r) told t by = settles_up limits s n p r (check_of p r) told t by
 came_up limits s n p (Err f) told t by = ap (λ (u : ProxyState). u.up) by.1
 

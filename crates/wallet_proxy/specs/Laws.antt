@@ -1,5 +1,5 @@
 -- What the steps of a proxy promise, in its user's words.
-use Rattle.std.specs.Prelude.{◌≡◌, ◌⊎◌, ◌≤◌, ℕ, ◌+◌, ◌==◌, ◌||◌, Bool, true, false, IsTrue, List, [], ◌∷◌, ◌++◌, length, sum_by, count_by, Some, None, Result}
+use Rattle.std.specs.Prelude.{◌≡◌, ◌⊎◌, ◌≤◌, ℕ, ◌+◌, ◌==◌, ◌||◌, Bool, true, false, IsTrue, List, [], ◌∷◌, ◌++◌, length, sum_by, count_by, Some, None, Result, Ok}
 use Rattle.mc_requests.specs.declared.refusal.Refusal.{Refusal}
 use Rattle.mc_requests.specs.declared.refusal.Refusal.TheVariants.{NoLink, NoReply, BadReply, Unproved, UpstreamFault}
 use Rattle.mc_records.specs.Entry.{Entry, Pend, Done, Refused}
@@ -61,6 +61,37 @@ pub record AsksFor (s t : ProxyState) : Type 0 where
 
 abbrev pub MovesUp : ProxyState → ProxyState → Type 0
 MovesUp s t = (t.up ≡ s.up) ⊎ AsksFor s t
+
+-- ---- for what it is
+
+-- a get of a target at the vendor
+pub record IsGetOf (b : Bounds) (target : List ℕ) (p : Pending) : Type 0 where
+  pub get : p.ask ≡ 0
+  pub peer' : p.peer ≡ b.vendor
+  pub target' : p.target ≡ target
+
+-- The vendor's links were used for the get of a target, whose Pend entry stands.
+pub record AsksOnlyFor (b : Bounds) (target : List ℕ) (s t : ProxyState) : Type 0 where
+  pub n : ℕ
+  pub p : Pending
+  pub of : IsGetOf b target p
+  pub stands : pending_in t.history n ≡ Some p
+  pub came : Result Received Refusal
+  pub fetches : Fetches (request_bytes p) came s.up t.up
+
+-- Contents with their price came on the vendor's next link as the reply to the get of a target, which stands in the book
+-- and which that reply settles.
+pub record IsBroughtFor (b : Bounds) (target : List ℕ) (price : ℕ) (bytes : List ℕ) (s t : ProxyState) : Type 0 where
+  pub n : ℕ
+  pub p : Pending
+  pub of : IsGetOf b target p
+  pub stands : pending_in t.history n ≡ Some p
+  pub r : Received
+  pub fetches : Fetches (request_bytes p) (Ok r) s.up t.up
+  pub passes : check_of p r ≡ None
+  pub status : (r.status == 200) ≡ true
+  pub price' : price_of r ≡ Some price
+  pub contents' : r.contents ≡ bytes
 
 -- ---- what is paid
 

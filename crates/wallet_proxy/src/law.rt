@@ -1,6 +1,8 @@
 //! Laws over the steps of a proxy, each on a function that does nothing.
 
-ghost use Rattle.std.specs.Prelude.{◌≡◌, ◌≤◌, ℕ, Bool, List, Some, length};
+ghost use Rattle.std.specs.Prelude.{◌≡◌, ◌⊎◌, ◌≤◌, ◌+◌, ◌∷◌, ◌++◌, ℕ, Bool, List, [], Some, true, length, Result};
+ghost use Rattle.mc_outside.specs.LinkView.{LinkView};
+ghost use Rattle.mc_records.specs.Entry.{Entry};
 ghost use Rattle.mc_requests.specs.declared.refusal.Refusal.{Refusal};
 ghost use Rattle.mc_requests.specs.Requests.{Asked};
 ghost use Rattle.millicent_http.specs.Items.{Item, request};
@@ -8,8 +10,8 @@ ghost use Rattle.millicent_http.specs.Steps.{Did, Run, state_after};
 ghost use Rattle.wallet_model.specs.Requests.{Pending, kept_get};
 ghost use Rattle.wallet_model.specs.Follows.{IsWalletBook};
 ghost use Rattle.wallet_proxy.specs.Told.{Told, refusal, contents};
-ghost use Rattle.wallet_proxy.specs.Proxy.{ProxyState, Bounds, raised, Tells, ProxyStep};
-ghost use Rattle.wallet_proxy.specs.Laws.{Grows, IsPaidFor, MovesUp, PaysAsBooked, StaysKept, IsKept, SettlesAtMost, Keeps};
+ghost use Rattle.wallet_proxy.specs.Proxy.{ProxyState, Bounds, Payment, raised, Tells, ProxyStep, DoubtsBy, payment_for};
+ghost use Rattle.wallet_proxy.specs.Laws.{is_request, AsksOnlyFor, IsBroughtFor, IsOneGet, price_told, Grows, IsPaidFor, MovesUp, PaysAsBooked, StaysKept, IsKept, SettlesAtMost, Keeps};
 
 /// Whatever is told to an item: the wallet's book goes on by at most one request and one settlement. What is told as paid
 /// for is what a rightly signed reply brought, and its Done entry is the last one. What is paid rises by what the Done
@@ -53,4 +55,26 @@ pub fn a_run_pays_as_booked()
     ensures costs { (b : Bounds) (s : ProxyState) (items : List Item) (readings : List ℕ)
         (steps : List (Did ProxyState)) → Run (ProxyStep b) s items readings steps
         → PaysAsBooked s (state_after s steps) }
+{}
+
+/// Where the disk fails while an entry of an item is written: if it is its request, none was added before it, and nothing was
+/// done to the links to the vendor, so that no byte of it was sent. The item has one request and one settlement at most, the one
+/// in doubt among them; and what was paid stays within the budget with the price in doubt.
+pub fn what_is_in_doubt()
+    ensures unsent { (b : Bounds) (s : ProxyState) (target : List ℕ) (x : Result Payment Refusal) (added : List Entry) (e : Entry) (up : LinkView)
+        → DoubtsBy b s target x added e up → is_request e ≡ true → (added ≡ []) × (up ≡ s.up) }
+    ensures one { (b : Bounds) (s : ProxyState) (target : List ℕ) (x : Result Payment Refusal) (added : List Entry) (e : Entry) (up : LinkView)
+        → DoubtsBy b s target x added e up → IsOneGet (added ++ e ∷ []) }
+    ensures within { (b : Bounds) (s : ProxyState) (q : Asked) (added : List Entry) (e : Entry) (up : LinkView)
+        → IsWalletBook s.history → DoubtsBy b s q.target (payment_for b s q) added e up → s.paid ≤ b.budget
+        → s.paid + price_told e ≤ b.budget }
+{}
+
+/// What is done to the vendor's links for a request is asked for by it: at most the get of its own target at the vendor is sent,
+/// and what is told as paid for is what came for that get.
+pub fn what_is_asked_is_sent_and_told()
+    ensures sent { (b : Bounds) (s : ProxyState) (q : Asked) (closes : Bool) (told : Told) (t : ProxyState)
+        → Tells b s (request q closes) told t → (t.up ≡ s.up) ⊎ AsksOnlyFor b q.target s t }
+    ensures told { (b : Bounds) (s : ProxyState) (q : Asked) (closes : Bool) (price : ℕ) (bytes : List ℕ) (t : ProxyState)
+        → Tells b s (request q closes) (contents price bytes) t → IsBroughtFor b q.target price bytes s t }
 {}
