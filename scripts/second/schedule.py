@@ -98,6 +98,10 @@ class World:
     def forge(self, message):
         self.send(message, None)
 
+    def tell(self, reply):
+        """A reply that somebody sends, who need not be a house."""
+        self.replies.append(reply)
+
     def deliver(self, message, of, reading):
         if message >= len(self.messages) or of >= len(self.houses):
             return
@@ -153,7 +157,7 @@ def can_be_asked(kind, values):
 
 
 EVENTS = {"enter": World.enter, "ask": World.ask, "again": World.again, "forge": World.forge,
-          "deliver": World.deliver, "return": World.hand, "restart": World.restart}
+          "tell": World.tell, "deliver": World.deliver, "return": World.hand, "restart": World.restart}
 
 
 def play(houses, wallets, limits, events):
@@ -204,7 +208,7 @@ def target(setting, word):
 
 small, amount = up_to(U32), up_to(MOST_VALUE)
 ASKED = {"get": (name, target, amount), "buy": (name, name, amount, amount), "draw": (name, name, of_length(16), number, amount)}
-LINES = {"enter": (small, data), "again": (small, name), "forge": (data,), "deliver": (small, small, number),
+LINES = {"enter": (small, data), "again": (small, name), "forge": (data,), "tell": (data,), "deliver": (small, small, number),
          "return": (small, small, number, number), "restart": (small,)}
 
 

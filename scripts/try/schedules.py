@@ -1,12 +1,12 @@
 #!/usr/bin/env python3
 """Looks for schedules after which wallets and houses do not agree, by the second program.
 
-    scripts/try/schedules.py [SCHEDULES] [SEED] [--without secrets|signatures|forgers]
+    scripts/try/schedules.py [SCHEDULES] [SEED] [--without secrets|signatures|forgers|replies|names]
 
-Without a word no schedule may break anything; the status is 1 where one does. With a word a premise on signatures is left out: that no
-customer's secret stands in two wallets, that no house takes requests without a signature, or that nobody signs with a wallet's secrets
-but the wallet. Then it tells how many schedules break what, and for each of these the shortest one that it came to, with no event that
-it does not need."""
+Without a word no schedule may break anything; the status is 1 where one does. With a word a premise is left out: that no
+customer's secret stands in two wallets, that no house takes requests without a signature, that nobody signs requests with a wallet's
+secrets but the wallet, that nobody signs replies with them but a house, or that no book is served by two houses of one name. Then it
+prints how many schedules break what, and for each of these the shortest one that it came to, with no event that it does not need."""
 import argparse
 import sys
 from pathlib import Path
@@ -75,9 +75,11 @@ def without(event, behind, schedule, at):
 def at_random(numbers, missing):
     """A schedule at random."""
     chosen = [numbers.of(some) for some in houses(clear=int(missing == "signatures"))]
+    if missing == "names":
+        chosen[2] = chosen[0]
     held = [numbers.of(some) for some in wallets(shared=missing == "secrets")]
     limits = limits_of(numbers, chosen)
-    grower = Grower(numbers, chosen, held, limits, shares=missing == "secrets", knows=missing == "forgers")
+    grower = Grower(numbers, chosen, held, limits, missing == "secrets", missing == "forgers", missing == "replies")
     for _ in range(numbers.between(10, 80)):
         grower.step()
     return Schedule(chosen, held, limits, grower.events)
@@ -87,7 +89,7 @@ def main():
     parser = argparse.ArgumentParser()
     parser.add_argument("count", nargs="?", type=int, default=2000)
     parser.add_argument("seed", nargs="?", type=int, default=1)
-    parser.add_argument("--without", choices=("secrets", "signatures", "forgers"))
+    parser.add_argument("--without", choices=("secrets", "signatures", "forgers", "replies", "names"))
     words = parser.parse_args()
     numbers, events, broken, kinds = Numbers(words.seed), 0, 0, {}
     for _ in range(words.count):

@@ -191,6 +191,7 @@ fn event(state: &State, verb: &[u8], args: &[&[u8]]) -> Option<Result<Event, Fau
         b"ask" => ask(state, args),
         b"again" => again(state, args),
         b"forge" => forge(state, args),
+        b"tell" => tell(state, args),
         b"deliver" => deliver(args),
         b"return" => hand(args),
         b"restart" => restart(args),
@@ -223,6 +224,15 @@ fn forge(state: &State, args: &[&[u8]]) -> Result<Event, Fault> {
         return Err(Fault::Arguments);
     };
     Ok(Event::Forge {
+        bytes: state.names.bytes(bytes)?,
+    })
+}
+
+fn tell(state: &State, args: &[&[u8]]) -> Result<Event, Fault> {
+    let [bytes] = *args else {
+        return Err(Fault::Arguments);
+    };
+    Ok(Event::Tell {
         bytes: state.names.bytes(bytes)?,
     })
 }

@@ -9,7 +9,7 @@ use Rattle.millicent_http.specs.Steps.{state_after}
 use Rattle.wallet_model.specs.Requests.{oldest_kept}
 use Rattle.wallet_model.specs.Asks.{Asking}
 use Rattle.world_model.specs.Deliveries.{did_all}
-use Rattle.world_model.specs.Worlds.{World, Message, Enter, Ask, Again, Forge, Deliver, Return, Restart, clamped, with_house, with_wallet, with_message, opens, Happens}
+use Rattle.world_model.specs.Worlds.{World, Message, Enter, Ask, Again, Forge, Tell, Deliver, Return, Restart, clamped, with_house, with_wallet, with_message, with_reply, opens, Happens}
 use Rattle.world_model.specs.Agreement.{IsBookOfWallet}
 use Rattle.world_model.specs.Conservation.{IsLawfulHouse, AreLawful}
 use Rattle.world_model.proofs.Lists.{got_is, all_get}
@@ -164,6 +164,9 @@ returned limits x y k j n reading h g bytes false is at settles after = inr (rec
 
 pub forged : (limits : Limits) (x y : World) (bytes : List ℕ) → y ≡ with_message x bytes None → Happens limits x (Forge bytes) y
 forged limits x y bytes after = inl after
+
+pub told : (limits : Limits) (x y : World) (bytes : List ℕ) → y ≡ with_reply x bytes → Happens limits x (Tell bytes) y
+told limits x y bytes after = inl after
 
 -- ---- houses
 

@@ -11,7 +11,7 @@ use Rattle.ledger_model.specs.Lawful.{IsLawful}
 use Rattle.wallet_model.specs.Follows.{IsWalletBook}
 use Rattle.world_model.specs.Worlds.{World, Event, HasBytes, opens, Happens, Plays}
 use Rattle.world_model.specs.Agreement.{IsHouseSetup, IsBookOfWallet, IsSetup}
-use Rattle.world_model.proofs.Theorems.{stay_lawful, stay_balanced, done_is_accepted, accepted_text_once, done_stands_once, done_was_drawn, pieces_stand_once, accepted_was_asked, repeats_settle}
+use Rattle.world_model.proofs.Theorems.{stay_lawful, stay_balanced, done_is_accepted, accepted_text_once, done_stands_once, done_was_drawn, pieces_stand_once, accepted_was_asked, drawn_was_asked, repeats_settle}
 use Rattle.world_model.proofs.Walks.{plays_snoc}
 use Rattle.mc_world.specs.declared.event.Setup.{Setup}
 use Rattle.mc_world.specs.declared.event.Event.{Event as Happening}
@@ -85,11 +85,12 @@ is_played limits w v es left setup plays shows = record {
   pieces = pieces_stand_once limits w v es setup plays;
   repeats = repeats_settle limits w v es setup plays;
   agree = λ sound. record {
-    done = done_is_accepted limits w v es setup plays sound;
-    accepted = accepted_text_once limits w v es setup plays sound;
-    once = done_stands_once limits w v es setup plays sound;
-    drawn = done_was_drawn limits w v es setup plays sound;
-    asked = accepted_was_asked limits w v es setup plays sound;
+    done = done_is_accepted limits w v es setup plays sound.made;
+    accepted = accepted_text_once limits w v es setup plays sound.names;
+    once = done_stands_once limits w v es setup plays sound.made sound.names sound.apart;
+    drawn = done_was_drawn limits w v es setup plays sound.made;
+    asked = accepted_was_asked limits w v es setup plays;
+    ordered = drawn_was_asked limits w v es setup plays;
   };
 }
 

@@ -9,9 +9,9 @@ use Rattle.ledger_model.specs.Histories.{History}
 use Rattle.ledger_model.specs.Lawful.{IsLawful}
 use Rattle.wallet_model.specs.Follows.{IsWalletBook}
 use Rattle.wallet_core.specs.Asks.{asking_of}
-use Rattle.world_model.specs.Worlds.{World, Event, HasBytes, Enter, Ask, Again, Forge, Deliver, Return, Restart, opens, Plays}
+use Rattle.world_model.specs.Worlds.{World, Event, HasBytes, Enter, Ask, Again, Forge, Tell, Deliver, Return, Restart, opens, Plays}
 use Rattle.world_model.specs.Signings.{IsSound}
-use Rattle.world_model.specs.Agreement.{DoneIsAccepted, AcceptedOnce, DoneOnce, DoneIsDrawn, PiecesOnce, AcceptedIsAsked, RepeatSettles}
+use Rattle.world_model.specs.Agreement.{DoneIsAccepted, AcceptedOnce, DoneOnce, DoneIsDrawn, PiecesOnce, AcceptedIsAsked, DrawnIsAsked, RepeatSettles}
 use Rattle.world_model.specs.Conservation.{AreLawful, AllBalanced}
 use Rattle.mc_world.specs.declared.event.Setup.{Setup}
 use Rattle.mc_world.specs.declared.event.Event.TheVariants as events
@@ -46,6 +46,7 @@ event_of (events.Enter house payload) = Enter house payload.items
 event_of (events.Ask wallet ask reading) = Ask wallet (asking_of ask) reading
 event_of (events.Again wallet peer) = Again wallet peer
 event_of (events.Forge bytes) = Forge bytes.items
+event_of (events.Tell bytes) = Tell bytes.items
 event_of (events.Deliver message house reading) = Deliver message house reading
 event_of (events.Return reply wallet request reading) = Return reply wallet request reading
 event_of (events.Restart party) = Restart party
@@ -70,7 +71,8 @@ pub record Agree (w v : World) : Type 0 where
   pub accepted : AcceptedOnce v
   pub once : DoneOnce w v
   pub drawn : DoneIsDrawn w v
-  pub asked : AcceptedIsAsked v
+  pub asked : AcceptedIsAsked w v
+  pub ordered : DrawnIsAsked w v
 
 -- What is left is of a world to which the events lead. There books are lawful and balanced, no piece stands twice in a
 -- wallet, and a repeat settles; and where signatures are sound, wallets and houses agree.

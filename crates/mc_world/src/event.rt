@@ -38,6 +38,10 @@ pub enum Event {
     Forge {
         bytes: Vec<u8>,
     },
+    /// Somebody sends a reply.
+    Tell {
+        bytes: Vec<u8>,
+    },
     /// A message reaches a house, as the bytes of one link, and the house's replies are one reply.
     Deliver {
         message: u32,

@@ -73,6 +73,7 @@ pub(crate) fn step(game: &mut Game, limits: Limits, event: &Event) -> Result<(),
         } => ask_at(game, limits, *wallet, ask, *reading),
         Event::Again { wallet, peer } => send_again_at(game, limits, *wallet, peer),
         Event::Forge { bytes } => forge(game, bytes),
+        Event::Tell { bytes } => tell(game, bytes),
         Event::Deliver {
             message,
             house,
@@ -141,6 +142,15 @@ fn forge(game: &mut Game, bytes: &[u8]) -> Result<(), NoMemory>
         bytes,
         sender: None,
     })?;
+    Ok(())
+}
+
+/// A reply of nobody's.
+fn tell(game: &mut Game, bytes: &[u8]) -> Result<(), NoMemory>
+    ensures happens { (limits : Bounds) → OnOk result (Happens limits (world_of game.old) (worlds.Tell bytes.now) (world_of game.new)) }
+{
+    let bytes = Vec::from_slice(game.alloc, bytes)?;
+    game.replies.push(bytes)?;
     Ok(())
 }
 

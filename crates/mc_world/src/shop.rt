@@ -1,6 +1,6 @@
 //! A house of a world: a bench, and its history beside it.
 
-ghost use Rattle.std.specs.Prelude.{◌≡◌, ◌≤◌, [], Some, IfOk, IfErr, OnOk, Err, false};
+ghost use Rattle.std.specs.Prelude.{◌≡◌, ◌≤◌, ◌↔◌, [], Some, IfOk, IfErr, OnOk, Err, true};
 ghost use Rattle.mc_requests.specs.Limits.{AreInRange};
 ghost use Rattle.mc_records.specs.Sizes.{size};
 ghost use Rattle.ledger_model.specs.Lawful.{IsLawful};
@@ -220,7 +220,7 @@ impl<T: Trade> Shop<T> {
 
 /// Whether memory was refused.
 fn is_starved(told: &Result<KeptNumber, Refusal>) -> bool
-    ensures { result ≡ false → told.now ≡ Err Starved → ⊥ }
+    ensures { result ≡ true ↔ told.now ≡ Err Starved }
 {
     match told {
         Err(Refusal::NoMemory) => true,

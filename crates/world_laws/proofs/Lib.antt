@@ -2,3 +2,5 @@ pub mod Cutting
 pub mod Delivering
 pub mod LinkLemmas
 pub mod RequestLemmas
+pub mod RunLemmas
+pub mod PaymentRuns

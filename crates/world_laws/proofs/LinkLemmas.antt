@@ -1,21 +1,27 @@
 -- What becomes of a link at a house is a schedule.
-use Rattle.std.proofs.Common.{◌≡◌, ◌⊎◌, inl, inr, ℕ, zero, suc, ◌<◌, false, List, [], ◌∷◌, ◌++◌, length, take, drop, Option, Some, refl, sym, ap, subst, ◌∙◌, append-nil, slice_get}
+use Rattle.std.proofs.Common.{◌≡◌, ◌⊎◌, inl, inr, ℕ, zero, suc, ◌<◌, false, List, [], ◌∷◌, ◌++◌, length, take, drop, Option, Some, None, refl, sym, ap, subst, ◌∙◌, append-nil, slice_get, option_map}
 use Rattle.std.proofs.lemmas.List.{take-append-drop}
-use Rattle.mc_outside.specs.LinkView.{LinkView, Session, next_taken, after_send, Failed}
+use Rattle.mc_outside.specs.LinkView as views
+use Rattle.mc_outside.specs.LinkView.{LinkView, Session, fresh, on_last, hear, send, next_taken, after_recv, after_send, Failed}
 use Rattle.mc_requests.specs.declared.limits.Limits.{Limits}
 use Rattle.mc_records.specs.Entry.{Entry}
 use Rattle.millicent_http.specs.declared.clock.Clock.TheVariants.{OfLinks}
 use Rattle.millicent_http.specs.Items.{Item, request}
 use Rattle.millicent_http.specs.Reads.{HaveRead}
-use Rattle.millicent_http.specs.Steps.{Did, sent_of, state_after}
+use Rattle.millicent_http.specs.Steps.{Did, sent_of, state_after, Run}
 use Rattle.millicent_http.specs.Courses.{AreRead, Replied, HadLink, HadLinks, IsServed, BrokeReceiving, BrokeSending}
 use Rattle.millicent_http.proofs.CourseLemmas.{replied_more}
-use Rattle.house_core.specs.Session.{State, Step}
+use Rattle.millicent_http.proofs.StepLemmas.{state_after-append}
+use Rattle.ledger_model.specs.Answer.{Answer}
+use Rattle.ledger_model.specs.Replies.{reply_of}
+use Rattle.house_core.specs.Session.{State, raised, entered, Gives, Step}
 use Rattle.house_serving.specs.InDoubt.{InDoubtLink}
 use Rattle.world_model.specs.Worlds.{World, Plays}
-use Rattle.world_laws.specs.Links.{AreMoments, TellsMoments, AreSent, IsHeard, LinkIsPlayed, FrontIsPlayed, LinkIsSchedule, LinksArePlayed, AllArePlayed, SomeArePlayed, FirstArePlayed, link_events, after_link, replies_of}
+use Rattle.world_laws.specs.Links.{AreMoments, TellsMoments, AreSent, IsHeard, LinkIsPlayed, FrontIsPlayed, LinkIsSchedule, LinksArePlayed, AllArePlayed, SomeArePlayed, FirstArePlayed, link_events, after_link, replies_of, AreTexts, IsPartOf, IsReceivedOn, AreReceived, Leads, AllLead, SomeLead, FirstLead, DoubtLeads, FrontsLead, AllFrontsLead, SomeFrontsLead}
+use Rattle.ledger_model.proofs.ListLaws.{all_weaker}
+use Rattle.world_model.proofs.Lists.{get_last, set_here}
 use Rattle.world_laws.proofs.Cutting.{HasTexts, texts_read, texts_of}
-use Rattle.world_laws.proofs.Delivering.{link_plays}
+use Rattle.world_laws.proofs.Delivering.{link_plays, link_leads, leads_none, leads_on, leads_from, leads_same, Grow, texts_part}
 
 -- ---- readings
 
@@ -258,3 +264,231 @@ first_are_played limits i links s steps before after e said x =
           let q = l.replied.read r.0 r.1 in
           (q.0, q.1, front q.0 l.replied.readings (subst AreMoments q.2 (front r.0 (l.in_doubt.reading ∷ []) (subst AreMoments r.2 here.2))));
     }
+
+-- ---- what was received
+
+on_last_of : (f : Session → Session) (xs : List Session) (x : Session) → on_last f (xs ++ x ∷ []) ≡ xs ++ f x ∷ []
+on_last_of f [] x = refl
+on_last_of f (y ∷ []) x = refl
+on_last_of f (y ∷ z ∷ xs) x = ap (λ (l : List Session). y ∷ l) (on_last_of f (z ∷ xs) x)
+
+-- the last link, on which these bytes were received, behind those before it
+record TellsLast (before after : LinkView) (got : List ℕ) (ss : List Session) : Type 0 where
+  earlier : List Session
+  last : Session
+  were : before.sessions ≡ Some earlier
+  are : ss ≡ earlier ++ last ∷ []
+  bytes : last.received ≡ got
+
+-- what a link does to the sessions: a list is changed at its last element
+one_more : (before after : LinkView) (got : List ℕ) (f : Session → Session) → (f fresh).received ≡ got → (o : Option (List Session)) → before.sessions ≡ o → (ss : List Session)
+    → option_map (λ xs. xs ++ f fresh ∷ []) o ≡ Some ss → TellsLast before after got ss
+one_more before after got f is None were ss told = absurd cc
+one_more before after got f is (Some rs) were ss told = record { earlier = rs; last = f fresh; were = were; are = sym (let same : rs ++ f fresh ∷ [] ≡ ss = cc in same); bytes = is }
+
+mapped_last : (g : Session → Session) (x : Session) (o : Option (List Session)) → option_map (on_last g) (option_map (λ xs. xs ++ x ∷ []) o) ≡ option_map (λ xs. xs ++ g x ∷ []) o
+mapped_last g x None = refl
+mapped_last g x (Some rs) = ap some (on_last_of g rs x)
+  where
+    some : List Session → Option (List Session)
+    some l = Some l
+
+tells_last : (between after : LinkView) (got : List ℕ) (steps : List (Did State)) → IsHeard got steps (next_taken between) after → (ss : List Session) → after.sessions ≡ Some ss → TellsLast between after got ss
+tells_last between after got steps heard ss is = elim heard [
+  | inl a ↦ one_more between after got (λ x. send (sent_of steps) (hear got x)) refl between.sessions refl ss
+      (sym (ap (option_map (on_last (send (sent_of steps)))) (mapped_last (hear got) fresh between.sessions) ∙ mapped_last (send (sent_of steps)) (hear got fresh) between.sessions) ∙ sym a ∙ is)
+  | inr b ↦ one_more between after got (λ x. send (sent_of steps) (views.ended (hear got x))) refl between.sessions refl ss
+      (sym (ap (option_map (on_last (send (sent_of steps)))) (ap (option_map (on_last views.ended)) (mapped_last (hear got) fresh between.sessions) ∙ mapped_last views.ended (hear got fresh) between.sessions) ∙ mapped_last (send (sent_of steps)) (views.ended (hear got fresh)) between.sessions) ∙ sym b ∙ is)
+]
+
+tells_front : (between after : LinkView) (got said : List ℕ) (steps : List (Did State)) → after.sessions ≡ (after_send said (after_send (sent_of steps) (after_recv got (next_taken between)))).sessions → (ss : List Session) → after.sessions ≡ Some ss → TellsLast between after got ss
+tells_front between after got said steps heard ss is =
+    one_more between after got (λ x. send said (send (sent_of steps) (hear got x))) refl between.sessions refl ss
+    (sym (ap (option_map (on_last (send said))) (ap (option_map (on_last (send (sent_of steps)))) (mapped_last (hear got) fresh between.sessions) ∙ mapped_last (send (sent_of steps)) (hear got fresh) between.sessions) ∙ mapped_last (send said) (send (sent_of steps) (hear got fresh)) between.sessions) ∙ sym heard ∙ is)
+
+grows_by : (between after : LinkView) (got : List ℕ) → ((ss : List Session) → after.sessions ≡ Some ss → TellsLast between after got ss) → Grow between after
+grows_by between after got last ss is = let t = last ss is in (t.earlier, t.last ∷ [], t.were, t.are)
+
+texts_received : (between after : LinkView) (got : List ℕ) (items : List Item) (texts : List (List ℕ)) → AreTexts got items texts → ((ss : List Session) → after.sessions ≡ Some ss → TellsLast between after got ss) → AreReceived texts after
+texts_received between after got items texts are last ss is =
+    let t = last ss is in
+    all_weaker (IsPartOf got) (IsReceivedOn ss) (λ text p. (
+      length t.earlier,
+      t.last,
+      subst (λ (xs : List Session). slice_get xs (length t.earlier) ≡ Some t.last) (sym t.are) (get_last t.earlier t.last),
+      subst (λ (l : List ℕ). IsPartOf l text) (sym t.bytes) p,
+    )) texts (texts_part got items texts are)
+
+-- ---- where they lead
+
+-- a first part of some steps, with the items that it answers
+record Front (limits : Limits) (s : State) (bytes : List ℕ) (done : List (Did State)) : Type 0 where
+  items : List Item
+  texts : List (List ℕ)
+  readings : List ℕ
+  whole : List (Did State)
+  are : AreTexts bytes items texts
+  moments : AreMoments readings
+  ran : Run (Step limits) s items readings whole
+  ends : state_after s whole ≡ state_after s done
+
+front_of : (limits : Limits) (s : State) (bytes : List ℕ) (items : List Item) (texts : List (List ℕ)) (readings : List ℕ) (whole done rest : List (Did State))
+    → AreTexts bytes items texts → AreMoments readings → Run (Step limits) s items readings whole → AreSent (done ++ rest) whole → Front limits s bytes done
+front_of limits s bytes items texts readings whole [] rest are moments ran sent = record { items = []; texts = []; readings = []; whole = []; are = tt; moments = tt; ran = tt; ends = refl }
+front_of limits s bytes items texts readings [] (d ∷ done) rest are moments ran sent = absurd sent
+front_of limits s bytes [] texts [] (e ∷ whole) (d ∷ done) rest are moments ran sent = absurd ran
+front_of limits s bytes [] texts (r ∷ readings) (e ∷ whole) (d ∷ done) rest are moments ran sent = absurd ran
+front_of limits s bytes (item ∷ items) texts [] (e ∷ whole) (d ∷ done) rest are moments ran sent = absurd ran
+front_of limits s bytes (item ∷ items) [] (r ∷ readings) (e ∷ whole) (d ∷ done) rest are moments ran sent = absurd are
+front_of limits s bytes (item ∷ items) (text ∷ texts) (r ∷ readings) (e ∷ whole) (d ∷ done) rest are moments ran sent =
+    let f = front_of limits e.after are.1.0 items texts readings whole done rest are.1.2 moments.1 ran.1 sent.3 in
+    record {
+      items = item ∷ f.items;
+      texts = text ∷ f.texts;
+      readings = r ∷ f.readings;
+      whole = e ∷ f.whole;
+      are = (are.0, (are.1.0, are.1.1, f.are));
+      moments = (moments.0, f.moments);
+      ran = (ran.0, f.ran);
+      ends = f.ends ∙ ap (λ (t : State). state_after t done) (sym sent.2);
+    }
+
+-- two ways to part a list
+parts : {X : Type 0} (first last done rest : List X) → first ++ last ≡ done ++ rest → ((m : List X) × (first ≡ done ++ m)) ⊎ ((m : List X) × (done ≡ first ++ m) × (last ≡ m ++ rest))
+parts [] last done rest is = inr (done, refl, is)
+parts {X} (x ∷ first) last [] rest is = inl (x ∷ first, refl)
+parts {X} (x ∷ first) last (y ∷ done) rest is =
+    let head : x ≡ y = cc in
+    let tail : first ++ last ≡ done ++ rest = cc in
+    elim (parts first last done rest tail) [
+      | inl a ↦ inl (a.0, ap (λ (z : X). z ∷ first) head ∙ ap (λ (zs : List X). y ∷ zs) a.1)
+      | inr b ↦ inr (b.0, ap (λ (zs : List X). y ∷ zs) b.1 ∙ ap (λ (z : X). z ∷ (first ++ b.0)) (sym head), b.2)
+    ]
+
+-- a first part of the steps on a link leads somewhere
+link_front : (limits : Limits) (w : World) (i : ℕ) (s : State) (steps : List (Did State)) (between after : LinkView) → slice_get w.houses i ≡ Some s → LinkIsPlayed limits w i s steps (next_taken between) after → TellsMoments after
+    → (done rest : List (Did State)) → steps ≡ done ++ rest → Leads limits w i (state_after s done) after
+link_front limits w i s steps between after house p tells done rest is =
+    let f = front_of limits s p.got p.items p.texts p.readings p.whole done rest p.of_bytes (p.moments tells) p.ran (subst (λ (ds : List (Did State)). AreSent ds p.whole) is p.sent) in
+    let x = link_leads limits w i s p.got f.items f.texts f.readings f.whole house f.are f.moments f.ran in
+    subst (λ (t : State). Leads limits w i t after) f.ends (record {
+      events = x.0;
+      texts = f.texts;
+      replies = replies_of f.whole;
+      plays = x.1;
+      received = texts_received between after p.got f.items f.texts f.are (tells_last between after p.got steps p.heard);
+      serving = x.2;
+    })
+
+link_grows : (limits : Limits) (w : World) (i : ℕ) (s : State) (steps : List (Did State)) (between after : LinkView) → LinkIsPlayed limits w i s steps (next_taken between) after → Grow between after
+link_grows limits w i s steps between after p = grows_by between after p.got (tells_last between after p.got steps p.heard)
+
+-- a world with a house in this state
+one_house : State → World
+one_house s = record { houses = s ∷ []; wallets = []; messages = []; replies = [] }
+
+grows_after : (limits : Limits) (s : State) (steps : List (Did State)) (between after : LinkView) → HadLink (Step limits) OfLinks steps s (next_taken between) after → Grow between after
+unfolding one_house
+grows_after limits s steps between after had = link_grows limits (one_house s) 0 s steps between after (link_is_schedule limits (one_house s) 0 s steps (next_taken between) after refl had)
+
+fronts_lead : (limits : Limits) (i n : ℕ) (s : State) (steps : List (Did State)) (before after : LinkView) → HadLinks (Step limits) OfLinks n steps s before after → FrontsLead limits i s steps after
+fronts_lead limits i zero s steps before after had [] rest is w house tells = leads_none limits w i s after house
+fronts_lead limits i zero s steps before after had (d ∷ done) rest is w house tells = absurd (let none : [] ≡ d ∷ (done ++ rest) = sym had.0 ∙ is in cc)
+fronts_lead limits i (suc n) s steps before after had done rest is w house tells =
+    let first = had.0 in
+    let last = had.1 in
+    let between = had.2 in
+    let link = had.5 in
+    let told = same_moments between (next_taken between) refl (moments_before limits (state_after s first) last (next_taken between) after link tells) in
+    let grow = grows_after limits (state_after s first) last between after link in
+    elim (parts first last done rest (sym had.3 ∙ is)) [
+      | inl a ↦ leads_on limits w i s (state_after s done) (state_after s done) between after grow house (fronts_lead limits i n s first before between had.4 done a.0 a.1 w house told) (λ x there. leads_none limits x i (state_after s done) after there)
+      | inr b ↦
+          let m = b.0 in
+          let here = fronts_lead limits i n s first before between had.4 first [] (sym (append-nil first)) w house told in
+          let both = leads_on limits w i s (state_after s first) (state_after (state_after s first) m) between after grow house here (λ x there.
+              link_front limits x i (state_after s first) last between after there (link_is_schedule limits x i (state_after s first) last (next_taken between) after there link) tells m rest b.2) in
+          subst (λ (t : State). Leads limits w i t after) (sym (ap (state_after s) b.1 ∙ state_after-append s first m)) both
+    ]
+
+pub all_fronts_lead : AllFrontsLead
+all_fronts_lead limits i links n s steps before after all done rest is w house tells = elim all [
+  | inl a ↦ fronts_lead limits i n s steps before after a.1 done rest is w house tells
+  | inr b ↦ leads_same limits w i (state_after s done) b.1.0 after (ap sessions_of b.1.2) (fronts_lead limits i n s steps before b.1.0 b.1.1 done rest is w house (same_moments b.1.0 after (ap (λ (v : LinkView). v.readings) b.1.2) tells))
+]
+
+pub some_fronts_lead : SomeFrontsLead
+some_fronts_lead limits i links s steps before after x done rest is w house tells =
+    leads_same limits w i (state_after s done) x.between after (ap sessions_of x.fault.same) (fronts_lead limits i x.n s steps before x.between x.links_had done rest is w house (same_moments x.between after (ap (λ (v : LinkView). v.readings) x.fault.same) tells))
+
+pub all_lead : AllLead
+all_lead limits i links n s steps before after all w house tells = all_fronts_lead limits i links n s steps before after all steps [] (sym (append-nil steps)) w house tells
+
+pub some_lead : SomeLead
+some_lead limits i links s steps before after x w house tells = some_fronts_lead limits i links s steps before after x steps [] (sym (append-nil steps)) w house tells
+
+pub first_lead : FirstLead
+unfolding first_are_played
+first_lead limits i links s steps before after e said x w house tells =
+    let p = first_are_played limits i links s steps before after e said x in
+    let a = fronts_lead limits i x.n s x.front before x.between x.links_had x.front [] (sym (append-nil x.front)) w house (p.tells tells) in
+    let at = p.here (after_link w i (state_after s x.front) a.texts a.replies) (set_here w.houses i s (state_after s x.front) house) in
+    let grow = grows_by x.between after at.got (tells_front x.between after at.got said x.last at.heard) in
+    let b = leads_on limits w i s (state_after s x.front) (state_after (state_after s x.front) x.last) x.between after grow house a (λ y there.
+        let f = p.here y there in
+        let z = link_leads limits y i (state_after s x.front) f.got f.items f.texts f.readings x.last there f.of_bytes (f.moments tells) f.ran in
+        record { events = z.0; texts = f.texts; replies = replies_of x.last; plays = z.1; received = texts_received x.between after f.got f.items f.texts f.of_bytes (tells_front x.between after f.got said x.last f.heard); serving = z.2 }) in
+    subst (λ (t : State). Leads limits w i t after) (sym (ap (state_after s) x.steps_are ∙ state_after-append s x.front x.last)) b
+
+-- ---- with the request in doubt
+
+-- the step that the disk failed in, as if it had not
+doubt_step : State → ℕ → Entry → Did State
+doubt_step u reading e = record { sent = reply_of (u.history ++ e ∷ []) (length u.history); after = entered (raised u reading) e }
+
+doubt_link : (limits : Limits) (w : World) (i : ℕ) (s : State) (steps : List (Did State)) (between stopped after : LinkView) (e : Entry) (said : List ℕ) → slice_get w.houses i ≡ Some s → InDoubtLink limits steps s (next_taken between) e said stopped
+    → after ≡ record stopped { stands = false } → TellsMoments after → (t : State) × (t.history ≡ (state_after s steps).history ++ e ∷ []) × Leads limits w i t after
+unfolding doubt_step
+doubt_link limits w i s steps between stopped after e said house l ended' tells =
+    let u : State = state_after s steps in
+    let r : ℕ = l.in_doubt.reading in
+    let d : Did State = doubt_step u r e in
+    let item : Item = request l.q l.closes in
+    let step : Step limits u r item d.sent d.after = subst (λ (a : Answer). Gives (raised u r) l.q a d.sent d.after) (sym l.in_doubt.takes) (inl (refl, refl)) in
+    let last : Replied (Step limits) OfLinks (item ∷ []) (d ∷ []) u l.between stopped.readings = record { readings = r ∷ []; read = l.in_doubt.read; ran = (step, tt) } in
+    let all = replied_more (Step limits) OfLinks l.front (item ∷ []) steps (d ∷ []) s (next_taken between).readings l.between stopped.readings l.replied last in
+    let texts = texts_read l.got l.first.held (l.front ++ item ∷ []) l.first.read in
+    let here : TellsMoments stopped = same_moments stopped after (ap (λ (v : LinkView). v.readings) ended') tells in
+    let x = link_leads limits w i s l.got (l.front ++ item ∷ []) texts.texts all.readings (steps ++ d ∷ []) house texts.are (these_moments (next_taken between) stopped all.readings all.read here) all.ran in
+    let heard : after.sessions ≡ (after_send said (after_send (sent_of steps) (after_recv l.got (next_taken between)))).sessions = ap sessions_of ended' ∙ sends_sessions _ said _ stopped l.in_doubt.sent in
+    (
+      d.after,
+      refl,
+      subst (λ (t : State). Leads limits w i t after) (state_after-append s steps (d ∷ [])) (record {
+        events = x.0;
+        texts = texts.texts;
+        replies = replies_of (steps ++ d ∷ []);
+        plays = x.1;
+        received = texts_received between after l.got (l.front ++ item ∷ []) texts.texts texts.are (tells_front between after l.got said steps heard);
+        serving = x.2;
+      }),
+    )
+
+pub doubt_leads : DoubtLeads
+doubt_leads limits i links s steps before after e said x w house tells =
+    let l = x.last_link in
+    let here : TellsMoments x.stopped = same_moments x.stopped after (ap (λ (v : LinkView). v.readings) x.ended) tells in
+    let q = l.in_doubt.read here.0 here.1 in
+    let q2 = l.replied.read q.0 q.1 in
+    let told : TellsMoments x.between = (q2.0, q2.1, front q2.0 l.replied.readings (subst AreMoments q2.2 (front q.0 (l.in_doubt.reading ∷ []) (subst AreMoments q.2 here.2)))) in
+    let a = fronts_lead limits i x.n s x.front before x.between x.links_had x.front [] (sym (append-nil x.front)) w house told in
+    let y : World = after_link w i (state_after s x.front) a.texts a.replies in
+    let there = set_here w.houses i s (state_after s x.front) house in
+    let heard : after.sessions ≡ (after_send said (after_send (sent_of x.last) (after_recv l.got (next_taken x.between)))).sessions = ap sessions_of x.ended ∙ sends_sessions _ said _ x.stopped l.in_doubt.sent in
+    let grow = grows_by x.between after l.got (tells_front x.between after l.got said x.last heard) in
+    let z = doubt_link limits y i (state_after s x.front) x.last x.between x.stopped after e said there l x.ended tells in
+    (
+      z.0,
+      z.1 ∙ ap (λ (t : State). t.history ++ e ∷ []) (sym (ap (state_after s) x.steps_are ∙ state_after-append s x.front x.last)),
+      leads_from limits w i s (state_after s x.front) z.0 x.between after grow house a z.2,
+    )

@@ -29,8 +29,9 @@ use Rattle.wallet_commands.specs.Paying.{ended_by, SettlesBy, EndsBy, UsesLink, 
 use Rattle.wallet_commands.specs.Saying.{contents_said, IsSaid}
 use Rattle.wallet_commands.proofs.KeptLemmas.{entered_is_kept, oldest_is_kept}
 use Rattle.wallet_commands.proofs.PayLemmas.{asks}
-use Rattle.world_model.specs.Worlds.{World, CanBeAsked, clamped, wallet_time}
+use Rattle.world_model.specs.Worlds.{World, CanBeAsked, clamped, wallet_time, with_wallet, with_reply}
 use Rattle.world_model.proofs.HouseSteps.{time_snoc}
+use Rattle.world_model.proofs.Lists.{get_last}
 use Rattle.world_laws.specs.Requests.{Leaves, IsReturned, UsedAs, IsAsked, PaidAs, PayingIsPlayed, TriedAs, TryingIsPlayed}
 
 -- ---- room
@@ -87,15 +88,23 @@ returned w j h moment n p r bytes before after at kept reads checked heard = rec
   heard = heard;
   reads = reads;
   is = refl;
-  returns = λ k reply most. record {
-    h = h;
-    p = p;
-    r = r;
-    meets = record { bytes = bytes; reply = reply; reads = reads; wallet = at; kept = kept.kept; request = kept.request };
-    checked = checked;
-    room = fits_full h (settlement h (wallet_time h moment) n p r) most;
-    after = refl;
-  };
+  returns = λ most. (
+    with_reply w bytes,
+    inl refl,
+    (
+      with_wallet (with_reply w bytes) j (h ++ settlement h (wallet_time h moment) n p r ∷ []),
+      inl (record {
+        h = h;
+        p = p;
+        r = r;
+        meets = record { bytes = bytes; reply = get_last w.replies bytes; reads = reads; wallet = at; kept = kept.kept; request = kept.request };
+        checked = checked;
+        room = fits_full h (settlement h (wallet_time h moment) n p r) most;
+        after = refl;
+      }),
+      refl,
+    ),
+  );
 }
 
 -- What is left of a settlement, by how the command ended. What it said is no matter of the links.

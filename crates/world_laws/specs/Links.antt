@@ -2,7 +2,7 @@
 use Rattle.std.specs.Prelude.{◌≡◌, ◌⊎◌, ℕ, zero, suc, ◌+◌, ◌<◌, ◌^◌, List, [], ◌∷◌, ◌++◌, length, map, Some, None, slice_get, slice_set}
 use Rattle.std.specs.List.{AllByRecursion}
 use Rattle.mc_outside.specs.Bytes.{BeginsWith}
-use Rattle.mc_outside.specs.LinkView.{LinkView, next_taken, after_recv, after_send, after_eof}
+use Rattle.mc_outside.specs.LinkView.{LinkView, Session, next_taken, after_recv, after_send, after_eof}
 use Rattle.mc_requests.specs.declared.limits.Limits.{Limits}
 use Rattle.mc_records.specs.Entry.{Entry}
 use Rattle.millicent_http.specs.declared.clock.Clock.TheVariants.{OfLinks}
@@ -12,7 +12,7 @@ use Rattle.millicent_http.specs.Courses.{AreRead, HadLink, ServedAll, ServedSome
 use Rattle.house_core.specs.Session.{State, Step}
 use Rattle.house_serving.specs.InDoubt.{InDoubtLinks}
 use Rattle.world_model.specs.Deliveries.{NoneWants}
-use Rattle.world_model.specs.Worlds.{World, Message, Event, Forge, Deliver, Plays}
+use Rattle.world_model.specs.Worlds.{World, Message, Event, Forge, Tell, Deliver, Read, Plays}
 
 -- ---- the events
 
@@ -78,6 +78,68 @@ pub record LinkIsPlayed (limits : Limits) (w : World) (i : ℕ) (s : State) (ste
   pub moments : TellsMoments after → AreMoments readings
   pub plays : AreMoments readings → NoneWants limits s items readings whole
       → Plays limits w (link_events i (length w.messages) texts readings) (after_link w i (state_after s steps) texts (replies_of whole))
+
+-- a text is a part of some bytes
+abbrev pub IsPartOf : List ℕ → List ℕ → Type 0
+IsPartOf bytes text = (front : List ℕ) × (back : List ℕ) × (bytes ≡ front ++ (text ++ back))
+
+-- a text is a part of what was received on one of some links
+abbrev pub IsReceivedOn : List Session → List ℕ → Type 0
+IsReceivedOn ss text = (k : ℕ) × (s : Session) × (slice_get ss k ≡ Some s) × IsPartOf s.received text
+
+-- where links are told, each of these texts is
+abbrev pub AreReceived : List (List ℕ) → LinkView → Type 0
+AreReceived texts v = (ss : List Session) → v.sessions ≡ Some ss → AllByRecursion (IsReceivedOn ss) texts
+
+-- an event of serving house i: somebody sends a request or a reply, one reaches the house, or the house reads its clock
+abbrev pub IsOfServing : ℕ → Event → Type 0
+IsOfServing i (Forge bytes) = Unit {0}
+IsOfServing i (Tell bytes) = Unit {0}
+IsOfServing i (Deliver m house reading) = house ≡ i
+IsOfServing i (Read house reading) = house ≡ i
+IsOfServing i _ = ⊥
+
+-- Events of serving lead from a world to one that has the house in this state, and in which no other house and no wallet is another. The
+-- messages that they add are texts that were received on these links.
+pub record Leads (limits : Limits) (w : World) (i : ℕ) (t : State) (links : LinkView) : Type 0 where
+  pub events : List Event
+  pub texts : List (List ℕ)
+  pub replies : List (List ℕ)
+  pub plays : Plays limits w events (after_link w i t texts replies)
+  pub received : AreReceived texts links
+  pub serving : AllByRecursion (IsOfServing i) events
+
+-- So do all links that were served, one after another, whatever memory was refused meanwhile.
+abbrev pub AllLead : Type 0
+AllLead = (limits : Limits) (i links n : ℕ) (s : State) (steps : List (Did State)) (before after : LinkView)
+    → ServedAll (Step limits) OfLinks links n steps s before after → (w : World) → slice_get w.houses i ≡ Some s → TellsMoments after → Leads limits w i (state_after s steps) after
+
+abbrev pub SomeLead : Type 0
+SomeLead = (limits : Limits) (i links : ℕ) (s : State) (steps : List (Did State)) (before after : LinkView)
+    → ServedSome (Step limits) OfLinks links steps s before after → (w : World) → slice_get w.houses i ≡ Some s → TellsMoments after → Leads limits w i (state_after s steps) after
+
+-- and where the disk failed, up to the request in doubt
+abbrev pub FirstLead : Type 0
+FirstLead = (limits : Limits) (i links : ℕ) (s : State) (steps : List (Did State)) (before after : LinkView) (e : Entry) (said : List ℕ)
+    → InDoubtLinks limits links steps s before e said after → (w : World) → slice_get w.houses i ≡ Some s → TellsMoments after → Leads limits w i (state_after s steps) after
+
+-- and with that request and its entry, which the disk may have
+abbrev pub DoubtLeads : Type 0
+DoubtLeads = (limits : Limits) (i links : ℕ) (s : State) (steps : List (Did State)) (before after : LinkView) (e : Entry) (said : List ℕ)
+    → InDoubtLinks limits links steps s before e said after → (w : World) → slice_get w.houses i ≡ Some s → TellsMoments after
+    → (t : State) × (t.history ≡ (state_after s steps).history ++ e ∷ []) × Leads limits w i t after
+
+-- And so does each first part of the steps, which is what a crash leaves of them.
+abbrev pub FrontsLead : Limits → ℕ → State → List (Did State) → LinkView → Type 0
+FrontsLead limits i s steps after = (done rest : List (Did State)) → steps ≡ done ++ rest → (w : World) → slice_get w.houses i ≡ Some s → TellsMoments after → Leads limits w i (state_after s done) after
+
+abbrev pub AllFrontsLead : Type 0
+AllFrontsLead = (limits : Limits) (i links n : ℕ) (s : State) (steps : List (Did State)) (before after : LinkView)
+    → ServedAll (Step limits) OfLinks links n steps s before after → FrontsLead limits i s steps after
+
+abbrev pub SomeFrontsLead : Type 0
+SomeFrontsLead = (limits : Limits) (i links : ℕ) (s : State) (steps : List (Did State)) (before after : LinkView)
+    → ServedSome (Step limits) OfLinks links steps s before after → FrontsLead limits i s steps after
 
 -- what becomes of a link at a house is a schedule
 abbrev pub LinkIsSchedule : Type 0

@@ -16,7 +16,7 @@ use Rattle.wallet_model.specs.Asks.{Asking, pend_entry, request_bytes}
 use Rattle.wallet_model.specs.Settling.{settlement}
 use Rattle.wallet_core.specs.OnDisk.{EncodesWallet}
 use Rattle.wallet_commands.specs.Paying.{PaysBy, RetriesBy}
-use Rattle.world_model.specs.Worlds.{World, CanBeAsked, wallet_time, with_wallet, with_message, Asks, SendsAgain, Returns}
+use Rattle.world_model.specs.Worlds.{World, CanBeAsked, Tell, Return, wallet_time, with_wallet, with_message, with_reply, Asks, SendsAgain, Plays}
 
 -- A command's disk has this history at its end, or each image that a crash may leave has this one or the one before.
 abbrev pub Leaves : DiskView → History → History → Type 0
@@ -24,15 +24,15 @@ Leaves d before h = EncodesWallet d h ⊎ ((image : List ℕ) → d.leaves image
 
 -- ---- one link for a kept request
 
--- The history got its next entry by a reply of these bytes, which came on the link on which the request was sent: wherever
--- they are a reply of the world, this is its return at the moment. A journal has no more than so many bytes.
+-- The history got its next entry by a reply of these bytes, which came on the link on which the request was sent: whoever told
+-- them, this is its return at the moment. A journal has no more than so many bytes.
 pub record IsReturned (w : World) (j : ℕ) (h : History) (moment n : ℕ) (p : Pending) (before after : LinkView) (g : History) : Type 0 where
   pub bytes : List ℕ
   pub r : Received
   pub heard : after.sessions ≡ (after_recv bytes (after_send (request_bytes p) (next_taken before))).sessions
   pub reads : IsReply bytes r
   pub is : g ≡ h ++ settlement h (wallet_time h moment) n p r ∷ []
-  pub returns : (k : ℕ) → slice_get w.replies k ≡ Some bytes → size g ≤ MOST_JOURNAL → Returns FULL w k j n moment (with_wallet w j g)
+  pub returns : size g ≤ MOST_JOURNAL → Plays FULL w (Tell bytes ∷ Return (length w.replies) j n moment ∷ []) (with_wallet (with_reply w bytes) j g)
 
 -- The book is as it was, or has or may have one entry more, by a return. It is so from each world where the wallet has
 -- this history: whatever was delivered to houses since its request was sent.

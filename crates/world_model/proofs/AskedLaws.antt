@@ -1,13 +1,13 @@
 -- Each Accept entry of a wallet's piece is for a request of the wallet.
 use Rattle.std.proofs.Common.{◌≡◌, ◌⊎◌, inl, inr, ℕ, zero, suc, Bool, true, false, List, [], ◌∷◌, take, map, Option, Some, None, refl, sym, ap, subst, ◌∙◌, arith, append-nil, slice_get}
-use Rattle.std.specs.Prelude.{◌==◌, Contains, option_and_then, filter_map}
+use Rattle.std.specs.Prelude.{◌==◌, Contains, option_and_then}
 use Rattle.std.proofs.lemmas.Bool.{eqb-true, eq-eqb}
-use Rattle.std.proofs.lemmas.List.Elements.{Contains-append_left}
 use Rattle.std.proofs.lemmas.Option.{same_Some}
 use Rattle.mc_requests.specs.declared.limits.Limits.{Limits}
 use Rattle.mc_records.specs.Entry.{Held, Deed, Entry, Accept}
 use Rattle.mc_requests.specs.Requests.{Asked}
 use Rattle.ledger_model.specs.Histories.{History}
+use Rattle.ledger_model.specs.Houses.{is_clear}
 use Rattle.ledger_model.specs.Lawful.{request_of}
 use Rattle.ledger_model.specs.Replies.{secret_for}
 use Rattle.scrip_certs.specs.Digests.{request_signature}
@@ -21,8 +21,8 @@ use Rattle.wallet_model.specs.Holdings.{pieces_came}
 use Rattle.wallet_model.specs.Asks.{asked_by, request_bytes}
 use Rattle.wallet_requests.specs.Sent.{CanBeSent}
 use Rattle.wallet_requests.proofs.SentLemmas.{request_is_item, history_asks}
-use Rattle.world_model.specs.Worlds.{World, Event}
-use Rattle.world_model.specs.Signings.{Signing, paying_secret, secrets_in, IsSignedUnder, HasRequest, asked_in, IsAskedBy, IsSentByOther, IsSound}
+use Rattle.world_model.specs.Worlds.{World}
+use Rattle.world_model.specs.Signings.{Signing, IsSignedUnder, HasRequest, asked_in, IsAskedBy, IsSentByOther, SignsAlone}
 use Rattle.world_model.specs.Agreement.{IsSetup}
 use Rattle.world_model.proofs.Lists.{got_is, two_back, goes_at}
 use Rattle.world_model.proofs.Tied.{IsAskedIn, HouseEntry, HouseTied, IsOfSender, Tied, sender_at}
@@ -59,10 +59,10 @@ own_request p bytes q can is asks =
 
 -- ---- where the request of an Accept entry comes from
 
-record IsOurs (v : World) (j : ℕ) (q : Asked) : Type 0 where
-  h : History
-  wallet : slice_get v.wallets j ≡ Some h
-  has : HasRequest h q
+pub record IsOurs (v : World) (j : ℕ) (q : Asked) : Type 0 where
+  pub h : History
+  pub wallet : slice_get v.wallets j ≡ Some h
+  pub has : HasRequest h q
 
 sender_cases : (k j : ℕ) → (k ≡ j) ⊎ (k ≡ j → ⊥)
 sender_cases k j = go (k == j) refl
@@ -77,7 +77,7 @@ other_sender k j never e = never (same_Some k j e)
 none_sender : (j : ℕ) → ◌≡◌ {A = Option ℕ} None (Some j) → ⊥
 none_sender j e = cc
 
-asked_where : (limits : Limits) (w : World) (Made : Signing → Type 0) (v : World) (j : ℕ) (q : Asked) → IsSetup limits w → Tied limits w Made v → (a : IsAskedIn v.messages q) → IsSentByOther v j q ⊎ IsOurs v j q
+pub asked_where : (limits : Limits) (w : World) (Made : Signing → Type 0) (v : World) (j : ℕ) (q : Asked) → IsSetup limits w → Tied limits w Made v → (a : IsAskedIn v.messages q) → IsSentByOther v j q ⊎ IsOurs v j q
 asked_where limits w Made v j q setup tied a = go a.message.sender refl (sender_at v.wallets v.messages a.n a.message tied.messages a.sent)
   where
     go : (o : Option ℕ) → a.message.sender ≡ o → IsOfSender v.wallets a.message.sender a.message.bytes → IsSentByOther v j q ⊎ IsOurs v j q
@@ -94,23 +94,23 @@ asked_where limits w Made v j q setup tied a = go a.message.sender refl (sender_
 
 -- ---- the law
 
-pub accepted_is_asked : (limits : Limits) (w : World) (events : List Event) (Made : Signing → Type 0) (v : World) (i j n : ℕ) (s : State) (h : History) (secret text target : List ℕ) (m price : ℕ) (sign : Option (List ℕ)) (change : Option ℕ) (deed : Deed)
-    → IsSetup limits w → Tied limits w Made v → IsSound limits w events v → slice_get v.houses i ≡ Some s → slice_get v.wallets j ≡ Some h
+pub accepted_is_asked : (limits : Limits) (w : World) (Made : Signing → Type 0) (v : World) (i j n : ℕ) (s : State) (h : History) (secret text target : List ℕ) (m price : ℕ) (sign : Option (List ℕ)) (change : Option ℕ) (deed : Deed)
+    → IsSetup limits w → Tied limits w Made v → slice_get v.houses i ≡ Some s → is_clear s.history ≡ false → slice_get v.wallets j ≡ Some h → SignsAlone w v j
     → slice_get s.history n ≡ Some (Accept m text target sign price change deed) → Contains (pieces_came h) (record { text = text; secret = secret }) → secret_for (take n s.history) text ≡ Some secret
     → HasRequest h (request_of text target sign)
-accepted_is_asked limits w events Made v i j n s h secret text target m price sign change deed setup tied sound house wallet at stands known =
+accepted_is_asked limits w Made v i j n s h secret text target m price sign change deed setup tied house closed wallet alone at stands known =
     let e : Entry = Accept m text target sign price change deed in
     let q : Asked = request_of text target sign in
     let la = lawful_accept limits s.history n m text target sign price change deed (house_lawful limits w Made v i s setup tied house) at in
     let same : la.secret ≡ secret = got_is la.secret secret (secret_for (take n s.history) text) la.known known in
-    let signs : q.sign ≡ Some (encode_lower (request_signature text target secret)) = subst (λ (x : List ℕ). q.sign ≡ Some (encode_lower (request_signature text target x))) same (la.signs (sound.signed i s house)) in
+    let signs : q.sign ≡ Some (encode_lower (request_signature text target secret)) = subst (λ (x : List ℕ). q.sign ≡ Some (encode_lower (request_signature text target x))) same (la.signs closed) in
     let under : IsSignedUnder secret q = (text, refl, signs) in
-    let here : Contains (secrets_in h) secret = Contains-append_left (map (λ (p : Held). p.secret) (pieces_came h)) (filter_map paying_secret h) secret (contains_map (λ (p : Held). p.secret) (pieces_came h) (record { text = text; secret = secret }) stands) in
+    let here : Contains (map (λ (p : Held). p.secret) (pieces_came h)) secret = contains_map (λ (p : Held). p.secret) (pieces_came h) (record { text = text; secret = secret }) stands in
     let b = two_back (HouseTied limits v.messages) w.houses v.houses i s tied.houses house in
     elim (goes_at (HouseEntry limits v.messages) b.x.history s.history n e b.related.goes at) [
-      | inl there ↦ sound.own j h secret q wallet here (inr (record { i = i; s = b.x; n = n; house = b.is; entry = ap (λ (o : Option Entry). option_and_then asked_in o) there })) under
+      | inl there ↦ alone h secret q wallet here (inr (record { i = i; s = b.x; n = n; house = b.is; entry = ap (λ (o : Option Entry). option_and_then asked_in o) there })) under
       | inr later ↦ elim (asked_where limits w Made v j q setup tied later.1.came) [
-        | inl other ↦ sound.own j h secret q wallet here (inl other) under
+        | inl other ↦ alone h secret q wallet here (inl other) under
         | inr ours ↦ subst (λ (g : History). HasRequest g q) (got_is ours.h h (slice_get v.wallets j) ours.wallet wallet) ours.has
       ]
     ]

@@ -144,12 +144,12 @@ line_read_back x p cert text secret =
 
 -- ---- the Done entry
 
-came_drawn : (now : History) (n : ℕ) (x : Held) (got : Option Held) → if_new (texts_came (take n now)) (Some x) ≡ got → HasDrawn now n (Some x) got
+came_drawn : (now : History) (n : ℕ) (x : Held) (got : Option Held) → if_new (texts_came (take n now)) (Some x) ≡ got → HasDrawn now n x got
 came_drawn now n x got is = go (is_new (texts_came (take n now)) x.text) refl is
   where
-    go : (b : Bool) → is_new (texts_came (take n now)) x.text ≡ b → cond b (Some x) None ≡ got → HasDrawn now n (Some x) got
+    go : (b : Bool) → is_new (texts_came (take n now)) x.text ≡ b → cond b (Some x) None ≡ got → HasDrawn now n x got
     go true new e = inl (sym e)
-    go false old e = inr (sym e, (x, refl, old))
+    go false old e = inr (sym e, old)
 
 draw_asks : (ask : ℕ) (scrip : Option (List ℕ)) (contents : List ℕ) → scrip ≡ None → HasItsPiece ask scrip → contents_came ask contents ≡ one_line contents
 draw_asks zero None contents is has = absurd has
@@ -203,7 +203,9 @@ done_is_drawn limits w v j before now n p price change got setup tied first last
           x.made.n,
           record {
             is = record { s = x.made.s; moment = m; id = id; house = x.made.house; entry = at ∙ ap (λ (t : List ℕ). draws m id t sign) target_is ∙ ap (draws m id p.target) sign_is };
-            drawn = subst (λ (o : Option Held). HasDrawn now n o got) (sym drawn_is) (came_drawn now n held got came);
+            held = held;
+            given = drawn_is;
+            drawn = came_drawn now n held got came;
           },
         )
       where

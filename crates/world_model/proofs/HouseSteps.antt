@@ -1,11 +1,11 @@
 -- What is delivered to a house, and what its operator enters, keeps it tied.
-use Rattle.std.proofs.Common.{◌≡◌, ℕ, ◌<◌, ◌^◌, List, [], ◌∷◌, ◌++◌, Some, refl, sym, subst, ◌∙◌, arith, append_assoc, slice_get}
+use Rattle.std.proofs.Common.{◌≡◌, ℕ, ◌<◌, ◌^◌, List, [], ◌∷◌, ◌++◌, Option, Some, refl, sym, ap, subst, ◌∙◌, arith, append_assoc, slice_get}
 use Rattle.std.specs.Prelude.{max, Contains}
 use Rattle.std.specs.List.{AllByRecursion}
 use Rattle.std.proofs.lemmas.List.Elements.{Contains-append_right}
 use Rattle.mc_requests.specs.declared.limits.Limits.{Limits}
 use Rattle.mc_requests.specs.Limits.{AreInRange}
-use Rattle.mc_records.specs.Entry.{Entry, Accept, Fits, moment_of}
+use Rattle.mc_records.specs.Entry.{Entry, Accept, Draw, Fits, moment_of}
 use Rattle.mc_requests.specs.Requests.{Asked}
 use Rattle.ledger_model.specs.Histories.{History, time}
 use Rattle.ledger_model.specs.Answer as answers
@@ -31,6 +31,7 @@ time_snoc (x ∷ xs) e = omega (arith, time_snoc xs e)
 
 pub command_came : (ms : List Message) (e : Entry) → IsCommand e → CameIn ms e
 command_came ms (Accept m scrip target sign price change deed) c = absurd c
+command_came ms (Draw m target sign drawn) c = absurd c
 command_came ms e c = tt
 
 -- ---- items
@@ -72,7 +73,12 @@ taken_came ms h t limits q e takes asked = go (taken_by h t limits q e takes)
     go (by_scrip none ran) =
         let x = through h t limits q e ran in
         subst (CameIn ms) x.is (subst (IsAskedIn ms) (sym (same_request h t limits q e x)) asked)
-    go (by_draw o asks ran) = subst (CameIn ms) (draw_through h t limits q o e ran).is tt
+    go (by_draw o asks ran) =
+        let x = draw_through h t limits q o e ran in
+        subst (CameIn ms) x.is (record { q = q; asked = asked; target_is = refl; sign_is = x.given_sign ∙ ap some x.is_right })
+      where
+        some : List ℕ → Option (List ℕ)
+        some s = Some s
 
 taken_bytes : (h : History) (t : ℕ) (limits : Limits) (q : Asked) (e : Entry) → answer h t limits q ≡ answers.Take e → HasBytes e
 taken_bytes h t limits q e takes = go (taken_by h t limits q e takes)

@@ -12,8 +12,10 @@ pub mod HouseSteps
 pub mod Steps
 pub mod DoneLaws
 pub mod AskedLaws
+pub mod OrderedLaws
 pub mod Balance
 pub mod Expiry
+pub mod Telling
 pub mod Absent
 pub mod Repeats
 pub mod OwnPieces

@@ -1,9 +1,8 @@
 -- Of one scrip text there is one Accept entry in all houses, and one Done entry that was added in all wallets.
 use Rattle.std.proofs.Common.{◌≡◌, inl, inr, ℕ, zero, suc, ◌<◌, true, false, List, [], ◌∷◌, ◌++◌, take, Option, Some, None, refl, sym, ap, subst, ◌∙◌, arith, append_assoc, slice_get, option_map, unwrap_or, bytes_eq}
-use Rattle.std.specs.Prelude.{Contains, option_and_then, filter_map, map}
+use Rattle.std.specs.Prelude.{Contains, option_and_then, filter_map}
 use Rattle.std.specs.List.{cons_option}
 use Rattle.std.proofs.lemmas.Bool.{cases_lt, eq-eqb}
-use Rattle.std.proofs.lemmas.List.Elements.{Contains-append_right}
 use Rattle.std.proofs.lemmas.Option.{same_Some, option_and_then_some}
 use Rattle.std.proofs.lemmas.Slice.Eq.{bytes_eq-Decides}
 use Rattle.scrip_form.specs.Scrip.{Scrip}
@@ -14,12 +13,11 @@ use Rattle.ledger_model.specs.Pieces.{piece_of}
 use Rattle.ledger_model.specs.Replies.{secret_for}
 use Rattle.house_core.specs.Session.{State}
 use Rattle.wallet_model.specs.Requests.{Pending, pending_of, pending_in, settles, pays, pays_with}
-use Rattle.wallet_model.specs.Holdings.{pieces_came}
 use Rattle.wallet_model.specs.Follows.{IsWalletBook}
 use Rattle.wallet_model.proofs.KeptLaws.{kept_at}
 use Rattle.wallet_model.proofs.PaidLaws.{paid_once, settled_is_kept}
-use Rattle.world_model.specs.Worlds.{World, Event}
-use Rattle.world_model.specs.Signings.{Signing, IsMade, paying_secret, secrets_in, IsSound}
+use Rattle.world_model.specs.Worlds.{World}
+use Rattle.world_model.specs.Signings.{Signing, IsMade, paying_secret, NamesDiffer, PayApart}
 use Rattle.world_model.specs.Agreement.{IsSetup, SettledSince, IsAccepted}
 use Rattle.world_model.proofs.Lists.{got_is}
 use Rattle.world_model.proofs.Tied.{Tied, pending_stays}
@@ -30,14 +28,14 @@ use Rattle.world_model.proofs.PaidLaws.{paid_accept}
 
 -- ---- one Accept entry
 
-pub accepts_once : (limits : Limits) (w : World) (events : List Event) (Made : Signing → Type 0) (v : World) (scrip target other : List ℕ) (price cost i k l m : ℕ) → IsSetup limits w → Tied limits w Made v → IsSound limits w events v
+pub accepts_once : (limits : Limits) (w : World) (Made : Signing → Type 0) (v : World) (scrip target other : List ℕ) (price cost i k l m : ℕ) → IsSetup limits w → Tied limits w Made v → NamesDiffer v
     → IsAccepted v scrip target price i k → IsAccepted v scrip other cost l m → (i ≡ l) × (k ≡ m)
-accepts_once limits w events Made v scrip target other price cost i k l m setup tied sound a b =
+accepts_once limits w Made v scrip target other price cost i k l m setup tied names a b =
     let first = house_lawful limits w Made v i a.s setup tied a.house in
     let la = lawful_accept limits a.s.history k a.moment scrip target a.sign price a.change a.deed first a.entry in
     let lb = lawful_accept limits b.s.history m b.moment scrip other b.sign cost b.change b.deed (house_lawful limits w Made v l b.s setup tied b.house) b.entry in
     let piece : la.piece ≡ lb.piece = got_is la.piece lb.piece (piece_of scrip) la.read lb.read in
-    let house : i ≡ l = sound.names i l a.s b.s a.house b.house (sym la.vendor ∙ ap (λ (p : Scrip). p.vendor) piece ∙ lb.vendor) in
+    let house : i ≡ l = names i l a.s b.s a.house b.house (sym la.vendor ∙ ap (λ (p : Scrip). p.vendor) piece ∙ lb.vendor) in
     let same : b.s ≡ a.s = got_is b.s a.s (slice_get v.houses l) b.house (ap (λ (n : ℕ). slice_get v.houses n) (sym house) ∙ a.house) in
     let entry : slice_get a.s.history m ≡ Some (Accept b.moment scrip other b.sign cost b.change b.deed) = ap (λ (s : State). slice_get s.history m) (sym same) ∙ b.entry in
     (house, accepted_once limits a.s.history k m a.moment b.moment scrip target other a.sign b.sign price cost a.change b.change a.deed b.deed first a.entry entry)
@@ -57,10 +55,9 @@ paying_is : (e : Entry) (p : Pending) (scrip : List ℕ) → pending_of e ≡ So
 paying_is e p scrip is paid =
     ap (λ (o : Option Pending). option_and_then (λ q. option_map (λ s. q.secret) q.scrip) o) is ∙ ap (λ (o : Option (List ℕ)). option_map (λ s. p.secret) o) paid
 
-pub pays_under : (h : History) (n : ℕ) (p : Pending) (scrip : List ℕ) → pending_in h n ≡ Some p → p.scrip ≡ Some scrip → Contains (secrets_in h) p.secret
+pub pays_under : (h : History) (n : ℕ) (p : Pending) (scrip : List ℕ) → pending_in h n ≡ Some p → p.scrip ≡ Some scrip → Contains (filter_map paying_secret h) p.secret
 pays_under h n p scrip is paid =
-    Contains-append_right (map (λ (x : Held). x.secret) (pieces_came h)) (filter_map paying_secret h) p.secret
-    (option_and_then_some pending_of (slice_get h n) p is (λ e at of. contains_filter paying_secret h n e p.secret at (paying_is e p scrip of paid)))
+    option_and_then_some pending_of (slice_get h n) p is (λ e at of. contains_filter paying_secret h n e p.secret at (paying_is e p scrip of paid))
 
 -- ---- two entries of one list
 
@@ -115,18 +112,18 @@ not_both h n m s t k l price cost change rest got more p q scrip book lt first s
     let both : true ≡ false = sym pays_second ∙ never in
     cc
 
-pub done_once : (limits : Limits) (w : World) (events : List Event) (v : World) (j l : ℕ) (before now first last : History) (n m : ℕ) (p q : Pending) (scrip : List ℕ) (price cost : ℕ) (change rest : Option (List ℕ)) (got more : Option Held)
-    → IsSetup limits w → Tied limits w (IsMade v) v → IsSound limits w events v → slice_get w.wallets j ≡ Some before → slice_get v.wallets j ≡ Some now
+pub done_once : (limits : Limits) (w : World) (v : World) (j l : ℕ) (before now first last : History) (n m : ℕ) (p q : Pending) (scrip : List ℕ) (price cost : ℕ) (change rest : Option (List ℕ)) (got more : Option Held)
+    → IsSetup limits w → Tied limits w (IsMade v) v → NamesDiffer v → PayApart v → slice_get w.wallets j ≡ Some before → slice_get v.wallets j ≡ Some now
     → slice_get w.wallets l ≡ Some first → slice_get v.wallets l ≡ Some last
     → SettledSince before now n p price change got → SettledSince first last m q cost rest more → p.scrip ≡ Some scrip → q.scrip ≡ Some scrip → (j ≡ l) × (n ≡ m)
-done_once limits w events v j l before now first last n m p q scrip price cost change rest got more setup tied sound was is had has since after paid again =
+done_once limits w v j l before now first last n m p q scrip price cost change rest got more setup tied names apart was is had has since after paid again =
     let a = paid_accept limits w v j before now n p scrip price change got setup tied was is since paid in
     let b = paid_accept limits w v l first last m q scrip cost rest more setup tied had has after again in
-    let one = accepts_once limits w events (IsMade v) v scrip p.target q.target price cost a.i a.k b.i b.k setup tied sound a.agrees.is b.agrees.is in
+    let one = accepts_once limits w (IsMade v) v scrip p.target q.target price cost a.i a.k b.i b.k setup tied names a.agrees.is b.agrees.is in
     let house : b.agrees.is.s ≡ a.agrees.is.s = got_is b.agrees.is.s a.agrees.is.s (slice_get v.houses b.i) b.agrees.is.house (ap (λ (x : ℕ). slice_get v.houses x) (sym one.0) ∙ a.agrees.is.house) in
     let there : secret_for (take a.k a.agrees.is.s.history) scrip ≡ Some q.secret = ap (λ (x : ℕ). secret_for (take x a.agrees.is.s.history) scrip) one.1 ∙ ap (λ (s : State). secret_for (take b.k s.history) scrip) (sym house) ∙ b.known in
     let secret : p.secret ≡ q.secret = got_is p.secret q.secret (secret_for (take a.k a.agrees.is.s.history) scrip) a.known there in
-    let wallet : j ≡ l = sound.apart j l now last p.secret is has (pays_under now since.number p scrip since.request paid) (subst (Contains (secrets_in last)) (sym secret) (pays_under last after.number q scrip after.request again)) in
+    let wallet : j ≡ l = apart j l now last p.secret is has (pays_under now since.number p scrip since.request paid) (subst (Contains (filter_map paying_secret last)) (sym secret) (pays_under last after.number q scrip after.request again)) in
     let same : last ≡ now = got_is last now (slice_get v.wallets l) has (ap (λ (x : ℕ). slice_get v.wallets x) (sym wallet) ∙ is) in
     let book = (wallet_now limits w (IsMade v) v j now setup tied is).lawful in
     let done : slice_get now m ≡ Some (Done after.moment after.number cost rest more) = subst (λ (h : History). slice_get h m ≡ Some (Done after.moment after.number cost rest more)) same after.done in

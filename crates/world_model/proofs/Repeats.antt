@@ -1,12 +1,11 @@
 -- One repeat of a kept request settles it, where the first reply of its entry is read back and passes the check.
-use Rattle.std.proofs.Common.{◌≡◌, ◌⊎◌, inl, inr, ℕ, zero, suc, ◌+◌, ◌<◌, ◌≤◌, Bool, true, false, cond, List, [], ◌∷◌, ◌++◌, length, take, Option, Some, None, Result, Ok, Err, refl, sym, ap, subst, ◌∙◌, arith, append-nil, slice_get, unwrap_or, ltb}
+use Rattle.std.proofs.Common.{◌≡◌, ◌⊎◌, inl, inr, ℕ, zero, suc, ◌+◌, ◌<◌, ◌≤◌, Bool, true, false, List, [], ◌∷◌, ◌++◌, length, take, Option, Some, None, Result, Ok, Err, refl, sym, ap, subst, ◌∙◌, arith, append-nil, slice_get, ltb}
 use Rattle.std.specs.Prelude.{max, slice_set}
-use Rattle.std.proofs.lemmas.Bool.{eq-eqb}
 use Rattle.hex.specs.Hex.{encode_lower}
 use Rattle.mc_requests.specs.declared.limits.Limits.{Limits}
 use Rattle.mc_requests.specs.declared.refusal.Refusal.{Refusal}
 use Rattle.mc_requests.specs.declared.refusal.Refusal.TheVariants.{JournalFull}
-use Rattle.mc_records.specs.Entry.{Entry, Site, Accept, Draw, Pend, Refused, payload, moment_of}
+use Rattle.mc_records.specs.Entry.{Entry, Site, Accept, Draw, Pend, payload, moment_of}
 use Rattle.mc_requests.specs.Requests.{Asked}
 use Rattle.mc_records.specs.Sizes.{size, tail}
 use Rattle.ledger_model.specs.Histories.{History, time}
@@ -27,17 +26,16 @@ use Rattle.millicent_http.specs.Received.{Received}
 use Rattle.reply_reader.specs.Replies.{IsReply}
 use Rattle.reply_reader.proofs.ReplyLemmas.{one_reply}
 use Rattle.wallet_model.specs.Requests.{Pending, pending_of, pending_in, is_kept, oldest_kept}
-use Rattle.wallet_model.specs.Holdings.{texts_came}
 use Rattle.wallet_model.specs.Follows.{is_wallet, asks_rightly, wallet_allows, WalletFollows, IsWalletBook}
 use Rattle.wallet_model.specs.Asks.{asked_by, request_bytes, signature_of}
-use Rattle.wallet_model.specs.Settling.{price_of, change_came, got_came, done_entry, check_of, refusal_number, settlement}
+use Rattle.wallet_model.specs.Settling.{check_of, settlement}
 use Rattle.wallet_model.proofs.BookLaws.{walked, all_of_book}
 use Rattle.wallet_model.proofs.KeptLaws.{both_right}
 use Rattle.wallet_requests.proofs.SentLemmas.{request_is_item, history_asks}
-use Rattle.world_model.specs.Worlds.{World, Message, Again, Deliver, Return, clamped, wallet_time, with_wallet, with_message, Meets, Happens}
+use Rattle.world_model.specs.Worlds.{World, Message, Again, Deliver, Return, clamped, wallet_time, with_wallet, with_message, Meets, Returns, Happens}
 use Rattle.world_model.specs.Signings.{Signing}
 use Rattle.world_model.specs.Deliveries.{reply_to, did_all}
-use Rattle.world_model.specs.Agreement.{IsSetup, IsHeldBy, MayRepeat, IsDone, RepliesSettle, RepeatSettles}
+use Rattle.world_model.specs.Agreement.{IsSetup, IsHeldBy, MayRepeat, IsEntered, IsDone, RepliesSettle, RepeatSettles}
 use Rattle.world_model.proofs.Lists.{got_is, get_last, set_here, two_back}
 use Rattle.world_model.proofs.Tied.{HouseTied, Tied}
 use Rattle.world_model.proofs.Oldest.{oldest_is}
@@ -156,12 +154,7 @@ answers_again limits h at e p later lawful is none holds le lt =
     number : ℕ → Answer
     number n = answers.Again n
 
--- ---- the settlement
-
-settled_200 : (h : History) (t n : ℕ) (p : Pending) (r : Received) → r.status ≡ 200 → settlement h t n p r ≡ done_entry h t n p r (change_came (texts_came h) r.change)
-unfolding settlement
-settled_200 h t n p r status =
-    ap (λ (b : Bool). cond b (done_entry h t n p r (change_came (texts_came h) r.change)) (Refused t n (refusal_number r.refusal))) (eq-eqb r.status 200 status)
+-- ---- room
 
 fitted_cases : (h : History) (limits : Limits) (e : Entry) → (fitted h limits e ≡ Ok e) ⊎ ((f : Refusal) × (fitted h limits e ≡ Err (Refuse f)))
 fitted_cases h limits e = go (ltb limits.journal (size h + (length (payload e) + length (tail h e) + 5)))
@@ -193,6 +186,10 @@ module _ (limits : Limits) (v : World) (j i n at : ℕ) (h : History) (s : State
     | inr none ↦ absurd (none.none sent (record { h = h; number = n; p = p; wallet = may.wallet; oldest = may.oldest; after = refl }))
   ]
 
+  again_goes : Happens limits v (Again j p.peer) sent
+  unfolding sent
+  again_goes = inl (record { h = h; number = n; p = p; wallet = may.wallet; oldest = may.oldest; after = refl })
+
   delivered_by : State → List Item → World
   delivered_by t items = record sent { houses = slice_set sent.houses i (state_after t (did_all limits t (clamped reading) items)); replies = sent.replies ++ sent_of (did_all limits t (clamped reading) items) ∷ [] }
 
@@ -217,6 +214,18 @@ module _ (limits : Limits) (v : World) (j i n at : ℕ) (h : History) (s : State
       after = refl;
     }))
   ]
+
+  deliver_goes : Heads (request_bytes p) asked_item → Happens limits sent (Deliver (length v.messages) i reading) (delivered_by s asked_item)
+  unfolding sent delivered_by message
+  deliver_goes heads = inl (record {
+    message = message;
+    s = s;
+    items = asked_item;
+    sent = get_last v.messages message;
+    house = may.house;
+    heads = heads;
+    after = refl;
+  })
 
   replied : List ℕ
   replied = reply_of s.history at ++ []
@@ -246,45 +255,61 @@ module _ (limits : Limits) (v : World) (j i n at : ℕ) (h : History) (s : State
 
 -- ---- the return
 
-return_is : (limits : Limits) (v : World) (k j n later : ℕ) (h : History) (p : Pending) (r : Received) (bytes : List ℕ) (x : World) → slice_get v.wallets j ≡ Some h → slice_get v.replies k ≡ Some bytes → IsReply bytes r
-    → is_kept h n ≡ true → pending_in h n ≡ Some p → check_of p r ≡ None → r.status ≡ 200 → Happens limits v (Return k j n later) x → IsDone limits x j h n
-return_is limits v k j n later h p r bytes x wallet reply reads kept asked checked status happens = elim happens [
-  | inl a ↦
+-- the settlement of a request by the reply that is there, which a Return enters where it fits
+module _ (limits : Limits) (v : World) (k j n later : ℕ) (h : History) (p : Pending) (r : Received) (bytes : List ℕ) (wallet : slice_get v.wallets j ≡ Some h) (reply : slice_get v.replies k ≡ Some bytes) (reads : IsReply bytes r) (kept : is_kept h n ≡ true) (asked : pending_in h n ≡ Some p) (checked : check_of p r ≡ None) where
+  made : Entry
+  made = settlement h (wallet_time h later) n p r
+
+  entered_world : World
+  entered_world = with_wallet v j (h ++ made ∷ [])
+
+  meets : Meets v k j n h p r
+  meets = record { bytes = bytes; reply = reply; reads = reads; wallet = wallet; kept = kept; request = asked }
+
+  does_return : fitted h limits made ≡ Ok made → Returns limits v k j n later entered_world
+  unfolding made entered_world
+  does_return room = record { h = h; p = p; r = r; meets = meets; checked = checked; room = room; after = refl }
+
+  -- what an event that returns it finds is this
+  record Found (x : World) : Type 0 where
+    room : fitted h limits made ≡ Ok made
+    after : x ≡ entered_world
+
+  found : (x : World) → Returns limits v k j n later x → Found x
+  unfolding made entered_world
+  found x a =
       let same : a.h ≡ h = got_is a.h h (slice_get v.wallets j) a.meets.wallet wallet in
       let whose : a.p ≡ p = got_is a.p p (pending_in h n) (ap (λ (g : History). pending_in g n) (sym same) ∙ a.meets.request) asked in
       let text : a.meets.bytes ≡ bytes = got_is a.meets.bytes bytes (slice_get v.replies k) a.meets.reply reply in
       let what : a.r ≡ r = one_reply bytes a.r r (subst (λ (b : List ℕ). IsReply b a.r) text a.meets.reads) reads in
-      let after : History → Pending → Received → World = λ (g : History) (q : Pending) (y : Received). with_wallet v j (g ++ settlement g (wallet_time g later) n q y ∷ []) in
-      let is : x ≡ after h p r = a.after ∙ ap (λ (g : History). after g a.p a.r) same ∙ ap (λ (q : Pending). after h q a.r) whose ∙ ap (after h p) what in
-      let at : slice_get x.wallets j ≡ Some (h ++ settlement h (wallet_time h later) n p r ∷ []) = ap (λ (u : World). slice_get u.wallets j) is ∙ set_here v.wallets j h (h ++ settlement h (wallet_time h later) n p r ∷ []) wallet in (
-        wallet_time h later,
-        unwrap_or (price_of r) 0,
-        change_came (texts_came h) r.change,
-        got_came (texts_came h) (change_came (texts_came h) r.change) p.ask r.contents,
-        inl (at ∙ ap (λ (y : Entry). some (h ++ y ∷ [])) (settled_200 h (wallet_time h later) n p r status)),
-      )
-  | inr none ↦
-      let made : Entry = settlement h (wallet_time h later) n p r in
-      let meets : Meets v k j n h p r = record { bytes = bytes; reply = reply; reads = reads; wallet = wallet; kept = kept; request = asked } in
-      elim (fitted_cases h limits made) [
-        | inl room ↦ absurd (none.none (with_wallet v j (h ++ made ∷ [])) (record { h = h; p = p; r = r; meets = meets; checked = checked; room = room; after = refl }))
-        | inr full ↦ (
-          wallet_time h later,
-          unwrap_or (price_of r) 0,
-          change_came (texts_came h) r.change,
-          got_came (texts_came h) (change_came (texts_came h) r.change) p.ask r.contents,
-          inr (ap (λ (u : World). slice_get u.wallets j) none.same ∙ wallet, full.0, ap (fitted h limits) (sym (settled_200 h (wallet_time h later) n p r status)) ∙ full.1),
-        )
-      ]
-]
-  where
-    some : History → Option History
-    some g = Some g
+      let after_of : History → Pending → Received → World = λ (g : History) (q : Pending) (y : Received). with_wallet v j (g ++ settlement g (wallet_time g later) n q y ∷ []) in
+      record {
+        room = subst (λ (y : Received). fitted h limits (settlement h (wallet_time h later) n p y) ≡ Ok (settlement h (wallet_time h later) n p y)) what
+            (subst (λ (q : Pending). fitted h limits (settlement h (wallet_time h later) n q a.r) ≡ Ok (settlement h (wallet_time h later) n q a.r)) whose
+            (subst (λ (g : History). fitted g limits (settlement g (wallet_time g later) n a.p a.r) ≡ Ok (settlement g (wallet_time g later) n a.p a.r)) same a.room));
+        after = a.after ∙ ap (λ (g : History). after_of g a.p a.r) same ∙ ap (λ (q : Pending). after_of h q a.r) whose ∙ ap (after_of h p) what;
+      }
+
+  return_is : (x : World) → Happens limits v (Return k j n later) x → IsEntered limits x j h (settlement h (wallet_time h later) n p r)
+  unfolding made entered_world
+  return_is x happens = elim happens [
+    | inl a ↦ inl (ap (λ (u : World). slice_get u.wallets j) (found x a).after ∙ set_here v.wallets j h (h ++ made ∷ []) wallet)
+    | inr none ↦ elim (fitted_cases h limits made) [
+      | inl room ↦ absurd (none.none entered_world (does_return room))
+      | inr full ↦ inr (ap (λ (u : World). slice_get u.wallets j) none.same ∙ wallet, full)
+    ]
+  ]
+
+  return_goes : (x : World) × Happens limits v (Return k j n later) x
+  return_goes = elim (fitted_cases h limits made) [
+    | inl room ↦ (entered_world, inl (does_return room))
+    | inr full ↦ (v, inr (record { none = λ x a. let both : Err (Refuse full.0) ≡ Ok made = sym full.1 ∙ (found x a).room in absurd (cc both); same = refl }))
+  ]
 
 -- ---- the law
 
 pub repeats : (limits : Limits) (w : World) (Made : Signing → Type 0) (v : World) → IsSetup limits w → Tied limits w Made v → RepliesSettle v → RepeatSettles limits v
-repeats limits w Made v setup tied settles j i n at h s p e may reading later lt x plays =
+repeats limits w Made v setup tied settles j i n at h s p e may reading later lt =
     let now = wallet_now limits w Made v j h setup tied may.wallet in
     let old = oldest_is h p.peer n p may.oldest in
     let lawful = house_lawful limits w Made v i s setup tied may.house in
@@ -296,13 +321,23 @@ repeats limits w Made v setup tied settles j i n at h s p e may reading later lt
     let heads : Heads (request_bytes p) (request (asked_by p) true ∷ []) =
     subst (λ (bytes : List ℕ). Heads bytes (request (asked_by p) true ∷ [])) (append-nil (request_bytes p)) (request_is_item p [] (history_asks h n p now.fits old.request)) in
     let again_at = answers_again limits s.history at e p (max s.time (clamped reading)) lawful may.entry (draws_pay_none h n p now.lawful old.request) may.holds (omega (arith, passed, early)) (omega (arith, still, lt)) in
-    let first = again_is limits v j i n at h s p e may reading later plays.0 plays.1 in
-    let second = deliver_is limits v j i n at h s p e may reading later plays.2.0 (heads_as limits v j i n at h s p e may reading later heads)
-    (subst (λ (y : World). Happens limits y (Deliver (length v.messages) i reading) plays.2.0) first plays.2.1) in
+    let asked_world = sent limits v j i n at h s p e may reading later in
     let then_world = delivered_by limits v j i n at h s p e may reading later s (asked_item limits v j i n at h s p e may reading later) in
-    let third : Happens limits then_world (Return (length v.replies) j n later) plays.2.2.0 = subst (λ (y : World). Happens limits y (Return (length v.replies) j n later) plays.2.2.0) second plays.2.2.1 in
+    let item = heads_as limits v j i n at h s p e may reading later heads in
     let there : slice_get then_world.wallets j ≡ Some h = ap (λ (hs : List History). slice_get hs j) (delivered_wallets limits v j i n at h s p e may reading later) ∙ may.wallet in
     let reply = delivered_reply limits v j i n at h s p e may reading later again_at in
-    let done = return_is limits then_world (length v.replies) j n later h p settle.r (replied limits v j i n at h s p e may reading later) plays.2.2.0 there reply
-    (reads_as limits v j i n at h s p e may reading later settle.r settle.reads) old.kept old.request settle.checked settle.status third in
-    subst (λ (y : World). IsDone limits y j h n) (sym plays.2.2.2) done
+    let reads = reads_as limits v j i n at h s p e may reading later settle.r settle.reads in
+    let told : List ℕ = replied limits v j i n at h s p e may reading later in
+    let last = return_goes limits then_world (length v.replies) j n later h p settle.r told there reply reads old.kept old.request settle.checked in (
+      (
+        last.0,
+        (asked_world, again_goes limits v j i n at h s p e may reading later, (then_world, deliver_goes limits v j i n at h s p e may reading later item, (last.0, last.1, refl))),
+      ),
+      λ x plays.
+          let first = again_is limits v j i n at h s p e may reading later plays.0 plays.1 in
+          let second = deliver_is limits v j i n at h s p e may reading later plays.2.0 item
+          (subst (λ (y : World). Happens limits y (Deliver (length v.messages) i reading) plays.2.0) first plays.2.1) in
+          let third : Happens limits then_world (Return (length v.replies) j n later) plays.2.2.0 = subst (λ (y : World). Happens limits y (Return (length v.replies) j n later) plays.2.2.0) second plays.2.2.1 in
+          let done = return_is limits then_world (length v.replies) j n later h p settle.r told there reply reads old.kept old.request settle.checked plays.2.2.0 third in
+          subst (λ (y : World). IsDone limits y j n later h s at p) (sym plays.2.2.2) (settle, done),
+    )

@@ -12,7 +12,7 @@ use Rattle.ledger_model.specs.Answer.{fitted}
 use Rattle.ledger_model.proofs.ListLaws.{all_append}
 use Rattle.ledger_model.proofs.TableLaws.{fitted_ok}
 use Rattle.ledger_model.proofs.FollowLaws.{size_snoc}
-use Rattle.house_core.specs.Session.{State}
+use Rattle.house_core.specs.Session.{State, raised}
 use Rattle.millicent_http.specs.Received.{Received}
 use Rattle.wallet_model.specs.Requests.{Pending, pending_of, pending_in, is_kept}
 use Rattle.wallet_model.specs.Holdings.{texts_came}
@@ -22,7 +22,7 @@ use Rattle.wallet_model.proofs.BookLaws.{book_grows}
 use Rattle.wallet_model.proofs.FitLaws.{settlement_fits, requests_have}
 use Rattle.wallet_model.proofs.PaidLaws.{kept_below}
 use Rattle.wallet_model.proofs.WrittenLaws.{settlement_follows, pend_follows}
-use Rattle.world_model.specs.Worlds.{HasBytes, World, Message, Event, Enter, Ask, Again, Forge, Deliver, Return, Restart, clamped, wallet_time, with_message, Enters, Asks, SendsAgain, Delivers, Meets, Returns, Restarts, Does, Happens}
+use Rattle.world_model.specs.Worlds.{HasBytes, World, Message, Event, Enter, Ask, Again, Forge, Tell, Deliver, Return, Restart, Read, clamped, wallet_time, with_message, with_reply, Enters, Asks, SendsAgain, Delivers, Meets, Returns, Restarts, Reads, Does, Happens}
 use Rattle.world_model.specs.Signings.{Signing, signing_asked}
 use Rattle.world_model.specs.Agreement.{IsHouseSetup, IsBookOfWallet, IsSetup}
 use Rattle.world_model.proofs.Lists.{get_last, AllTwo, two_of, two_set, two_weaker, two_back, set_here, all_get, goes_none, goes_more, goes_grown}
@@ -158,6 +158,9 @@ forge_step limits w Made v x bytes tied after =
       messages = one_more_sender v.wallets v.messages m tied.messages tt;
     })
 
+tell_step : (limits : Limits) (w : World) (Made : Signing → Type 0) (v x : World) (bytes : List ℕ) → Tied limits w Made v → x ≡ with_reply v bytes → Tied limits w Made x
+tell_step limits w Made v x bytes tied after = subst (Tied limits w Made) (sym after) (record { houses = tied.houses; wallets = tied.wallets; messages = tied.messages })
+
 deliver_step : (limits : Limits) (w : World) (Made : Signing → Type 0) (v x : World) (m i reading : ℕ) → IsSetup limits w → Tied limits w Made v → Delivers limits v m i reading x → Tied limits w Made x
 deliver_step limits w Made v x m i reading setup tied a =
     subst (Tied limits w Made) (sym a.after) (record {
@@ -194,14 +197,25 @@ restart_step limits w Made v x i tied a =
       messages = tied.messages;
     })
 
+read_step : (limits : Limits) (w : World) (Made : Signing → Type 0) (v x : World) (i reading : ℕ) → Tied limits w Made v → Reads v i reading x → Tied limits w Made x
+read_step limits w Made v x i reading tied a =
+    let s : State = raised a.s (clamped reading) in
+    subst (Tied limits w Made) (sym a.after) (record {
+      houses = two_set (HouseTied limits v.messages) w.houses v.houses i a.s s tied.houses a.house (λ b r. record { goes = r.goes; all = r.all; secrets = r.secrets; most = r.most; in_time = (let le = r.in_time in omega (arith, le)); moment = (let lt = r.moment in omega (arith, lt)) });
+      wallets = tied.wallets;
+      messages = tied.messages;
+    })
+
 does_step : (limits : Limits) (w : World) (Made : Signing → Type 0) (v x : World) (e : Event) → IsSetup limits w → MadeAt Made v e → Tied limits w Made v → Does limits v e x → Tied limits w Made x
 does_step limits w Made v x (Enter i bytes) setup made tied does = enter_step limits w Made v x i bytes setup tied does
 does_step limits w Made v x (Ask j asking reading) setup made tied does = ask_step limits w Made v x j asking reading setup tied does
 does_step limits w Made v x (Again j peer) setup made tied does = again_step limits w Made v x j peer tied does
 does_step limits w Made v x (Forge bytes) setup made tied does = forge_step limits w Made v x bytes tied does
+does_step limits w Made v x (Tell bytes) setup made tied does = tell_step limits w Made v x bytes tied does
 does_step limits w Made v x (Deliver m i reading) setup made tied does = deliver_step limits w Made v x m i reading setup tied does
 does_step limits w Made v x (Return k j n reading) setup made tied does = return_step limits w Made v x k j n reading setup made tied does
 does_step limits w Made v x (Restart i) setup made tied does = restart_step limits w Made v x i tied does
+does_step limits w Made v x (Read i reading) setup made tied does = read_step limits w Made v x i reading tied does
 
 pub happens_step : (limits : Limits) (w : World) (Made : Signing → Type 0) (v x : World) (e : Event) → IsSetup limits w → MadeAt Made v e → Tied limits w Made v → Happens limits v e x → Tied limits w Made x
 happens_step limits w Made v x e setup made tied happens = elim happens [

@@ -7,8 +7,8 @@ use Rattle.ledger_model.proofs.FollowLaws.{longer_lawful}
 use Rattle.house_core.specs.Session.{State}
 use Rattle.wallet_model.proofs.CameLaws.{came_once}
 use Rattle.world_model.specs.Worlds.{World, Event, Return, Plays}
-use Rattle.world_model.specs.Signings.{Signing, IsMade, ReturnIsMade, IsSound}
-use Rattle.world_model.specs.Agreement.{IsHouseSetup, IsBookOfWallet, IsSetup, DoneIsAccepted, AcceptedOnce, DoneOnce, DoneIsDrawn, PiecesOnce, AcceptedIsAsked, RepeatSettles}
+use Rattle.world_model.specs.Signings.{Signing, IsMade, ReturnIsMade, AreMade, NamesDiffer, PayApart}
+use Rattle.world_model.specs.Agreement.{IsHouseSetup, IsBookOfWallet, IsSetup, DoneIsAccepted, AcceptedOnce, DoneOnce, DoneIsDrawn, PiecesOnce, AcceptedIsAsked, DrawnIsAsked, RepeatSettles}
 use Rattle.world_model.specs.Conservation.{IsLawfulHouse, AreLawful, AllBalanced}
 use Rattle.world_model.proofs.Lists.{all_of_two, goes_grown}
 use Rattle.world_model.proofs.Walks.{walk}
@@ -18,6 +18,7 @@ use Rattle.world_model.proofs.PaidLaws.{paid_accept}
 use Rattle.world_model.proofs.OnceLaws.{accepts_once, done_once}
 use Rattle.world_model.proofs.DrawLaws.{done_is_drawn}
 use Rattle.world_model.proofs.AskedLaws.{accepted_is_asked}
+use Rattle.world_model.proofs.OrderedLaws.{drawn_is_asked}
 use Rattle.world_model.proofs.Balance.{all_balanced}
 use Rattle.world_model.proofs.Repeats.{repeats}
 use Rattle.world_model.proofs.Settles.{replies_settle}
@@ -40,9 +41,9 @@ made_by : (v x : World) (e : Event) → ReturnIsMade v x e → MadeAt (IsMade v)
 made_by v x (Return k j n reading) made = made
 made_by v x e made = tt
 
-pub tied_soundly : (limits : Limits) (w v : World) (events : List Event) → IsSetup limits w → Plays limits w events v → IsSound limits w events v → Tied limits w (IsMade v) v
-tied_soundly limits w v events setup plays sound =
-    walk (Tied limits w (IsMade v)) limits w events (λ front rest e x y is here tied happens. happens_step limits w (IsMade v) x y e setup (made_by v x e (sound.made front rest e x is here)) tied happens) [] events w v refl refl
+pub tied_soundly : (limits : Limits) (w v : World) (events : List Event) → IsSetup limits w → Plays limits w events v → AreMade limits w events v → Tied limits w (IsMade v) v
+tied_soundly limits w v events setup plays made =
+    walk (Tied limits w (IsMade v)) limits w events (λ front rest e x y is here tied happens. happens_step limits w (IsMade v) x y e setup (made_by v x e (made front rest e x is here)) tied happens) [] events w v refl refl
     (tied_first limits w (IsMade v) setup) plays
 
 -- ---- books stay lawful
@@ -62,29 +63,33 @@ stay_lawful limits w v events setup plays =
 
 -- ---- wallets and houses agree
 
-pub done_is_accepted : (limits : Limits) (w v : World) (events : List Event) → IsSetup limits w → Plays limits w events v → IsSound limits w events v → DoneIsAccepted w v
+pub done_is_accepted : (limits : Limits) (w v : World) (events : List Event) → IsSetup limits w → Plays limits w events v → AreMade limits w events v → DoneIsAccepted w v
 done_is_accepted limits w v events setup plays sound j before now first last n p scrip price change got since paid =
     let a = paid_accept limits w v j before now n p scrip price change got setup (tied_soundly limits w v events setup plays sound) first last since paid in
     (a.i, a.k, a.agrees)
 
-pub accepted_text_once : (limits : Limits) (w v : World) (events : List Event) → IsSetup limits w → Plays limits w events v → IsSound limits w events v → AcceptedOnce v
+pub accepted_text_once : (limits : Limits) (w v : World) (events : List Event) → IsSetup limits w → Plays limits w events v → NamesDiffer v → AcceptedOnce v
 accepted_text_once limits w v events setup plays sound scrip target other price cost i k l m a b =
-    accepts_once limits w events Anyhow v scrip target other price cost i k l m setup (tied_anyhow limits w v events setup plays) sound a b
+    accepts_once limits w Anyhow v scrip target other price cost i k l m setup (tied_anyhow limits w v events setup plays) sound a b
 
-pub done_stands_once : (limits : Limits) (w v : World) (events : List Event) → IsSetup limits w → Plays limits w events v → IsSound limits w events v → DoneOnce w v
-done_stands_once limits w v events setup plays sound j l before now first last was is had has n m p q scrip price cost change rest got more since after paid again =
-    done_once limits w events v j l before now first last n m p q scrip price cost change rest got more setup (tied_soundly limits w v events setup plays sound) sound was is had has since after paid again
+pub done_stands_once : (limits : Limits) (w v : World) (events : List Event) → IsSetup limits w → Plays limits w events v → AreMade limits w events v → NamesDiffer v → PayApart v → DoneOnce w v
+done_stands_once limits w v events setup plays made names apart j l before now first last was is had has n m p q scrip price cost change rest got more since after paid again =
+    done_once limits w v j l before now first last n m p q scrip price cost change rest got more setup (tied_soundly limits w v events setup plays made) names apart was is had has since after paid again
 
-pub done_was_drawn : (limits : Limits) (w v : World) (events : List Event) → IsSetup limits w → Plays limits w events v → IsSound limits w events v → DoneIsDrawn w v
+pub done_was_drawn : (limits : Limits) (w v : World) (events : List Event) → IsSetup limits w → Plays limits w events v → AreMade limits w events v → DoneIsDrawn w v
 done_was_drawn limits w v events setup plays sound j before now first last n p price change got since none =
     done_is_drawn limits w v j before now n p price change got setup (tied_soundly limits w v events setup plays sound) first last since none
 
 pub pieces_stand_once : (limits : Limits) (w v : World) (events : List Event) → IsSetup limits w → Plays limits w events v → PiecesOnce v
 pieces_stand_once limits w v events setup plays j h at = came_once h (wallet_now limits w Anyhow v j h setup (tied_anyhow limits w v events setup plays) at).lawful
 
-pub accepted_was_asked : (limits : Limits) (w v : World) (events : List Event) → IsSetup limits w → Plays limits w events v → IsSound limits w events v → AcceptedIsAsked v
-accepted_was_asked limits w v events setup plays sound i j n s h secret text target m price sign change deed house wallet at stands known =
-    accepted_is_asked limits w events Anyhow v i j n s h secret text target m price sign change deed setup (tied_anyhow limits w v events setup plays) sound house wallet at stands known
+pub accepted_was_asked : (limits : Limits) (w v : World) (events : List Event) → IsSetup limits w → Plays limits w events v → AcceptedIsAsked w v
+accepted_was_asked limits w v events setup plays i j n s h secret text target m price sign change deed house closed wallet alone at stands known =
+    accepted_is_asked limits w Anyhow v i j n s h secret text target m price sign change deed setup (tied_anyhow limits w v events setup plays) house closed wallet alone at stands known
+
+pub drawn_was_asked : (limits : Limits) (w v : World) (events : List Event) → IsSetup limits w → Plays limits w events v → DrawnIsAsked w v
+drawn_was_asked limits w v events setup plays i j n m id s h key target sign house wallet alone at known =
+    drawn_is_asked limits w Anyhow v i j n m id s h key target sign setup (tied_anyhow limits w v events setup plays) house wallet alone at known
 
 -- ---- books are balanced
 

@@ -4,7 +4,8 @@ use Rattle.std.specs.Prelude.{slice_set, option_and_then}
 use Rattle.std.specs.List.{AllByRecursion}
 use Rattle.std.proofs.lemmas.Option.{option_and_then_some}
 use Rattle.mc_requests.specs.declared.limits.Limits.{Limits}
-use Rattle.mc_records.specs.Entry.{Entry, Accept, Done, Fits}
+use Rattle.hex.specs.Hex.{encode_lower}
+use Rattle.mc_records.specs.Entry.{Entry, Accept, Draw, Done, Fits}
 use Rattle.mc_requests.specs.Requests.{Asked}
 use Rattle.mc_records.specs.Sizes.{size}
 use Rattle.ledger_model.specs.Histories.{History, time}
@@ -29,8 +30,16 @@ pub record IsAskedIn (ms : List Message) (q : Asked) : Type 0 where
   pub sent : slice_get ms n ≡ Some message
   pub asks : IsAskedBy message.bytes q
 
+-- so does one of this target and signature, whatever piece it brings
+pub record IsOrderedIn (ms : List Message) (target sign : List ℕ) : Type 0 where
+  pub q : Asked
+  pub asked : IsAskedIn ms q
+  pub target_is : q.target ≡ target
+  pub sign_is : q.sign ≡ Some (encode_lower sign)
+
 abbrev pub CameIn : List Message → Entry → Type 0
 CameIn ms (Accept m scrip target sign price change deed) = IsAskedIn ms (request_of scrip target sign)
+CameIn ms (Draw m target sign drawn) = IsOrderedIn ms target sign
 CameIn ms _ = Unit {0}
 
 -- an entry that an event added to a house
@@ -138,6 +147,7 @@ asked_stays ms more q a = record { n = a.n; message = a.message; sent = get_fron
 
 came_stays : (ms more : List Message) (e : Entry) → CameIn ms e → CameIn (ms ++ more) e
 came_stays ms more (Accept m scrip target sign price change deed) came = asked_stays ms more (request_of scrip target sign) came
+came_stays ms more (Draw m target sign drawn) came = record { q = came.q; asked = asked_stays ms more came.q came.asked; target_is = came.target_is; sign_is = came.sign_is }
 came_stays ms more e came = tt
 
 pub house_stays : (limits : Limits) (ms more : List Message) (s t : State) → HouseTied limits ms s t → HouseTied limits (ms ++ more) s t

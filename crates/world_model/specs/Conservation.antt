@@ -3,13 +3,14 @@ use Rattle.std.specs.Prelude.{◌≡◌, ℕ, ◌+◌, ◌≤◌, IsTrue, not, �
 use Rattle.std.specs.List.{list_any, AllByRecursion}
 use Rattle.mc_requests.specs.declared.limits.Limits.{Limits}
 use Rattle.scrip_form.specs.Scrip.{Scrip}
-use Rattle.mc_records.specs.Entry.{Entry}
+use Rattle.mc_records.specs.Entry.{Entry, Note, Switch}
 use Rattle.ledger_model.specs.declared.numbers.TheConstants.{VENDOR_KIND, BROKER_KIND}
 use Rattle.ledger_model.specs.Histories.{History, time}
 use Rattle.ledger_model.specs.Houses.{site_kind, site_name}
 use Rattle.ledger_model.specs.Laws.{AreDistinct}
-use Rattle.ledger_model.specs.Pieces.{accepted, is_spent}
-use Rattle.ledger_model.specs.Sums.{values, outstanding, lapsed}
+use Rattle.ledger_model.specs.Accounts.{all_balances}
+use Rattle.ledger_model.specs.Pieces.{accepted, own_out, is_spent}
+use Rattle.ledger_model.specs.Sums.{paid_in, paid_out, takings, fees, values, outstanding, lapsed}
 use Rattle.ledger_model.specs.Stock.{sales}
 use Rattle.house_core.specs.Session.{State}
 use Rattle.audit_model.specs.Books.{HaveOwnNames, IsHandedOut, IsBalanced}
@@ -62,3 +63,24 @@ ExpiryMoves = (h : History) (e : Entry) (handed : List Scrip)
     → (lapsed_at handed (h ++ e ∷ []) (time h) ≤ lapsed handed (h ++ e ∷ []))
     × (outstanding handed (h ++ e ∷ []) + lapsed handed (h ++ e ∷ [])
     ≡ outstanding_at handed (h ++ e ∷ []) (time h) + lapsed_at handed (h ++ e ∷ []) (time h))
+
+-- an entry of a house that moves no money and no piece: a Note, or a Switch
+abbrev pub OnlyTells : Entry → Type 0
+OnlyTells (Note m tag bytes) = Unit {0}
+OnlyTells (Switch m chain) = Unit {0}
+OnlyTells _ = ⊥
+
+-- two histories have the same money, and the same pieces handed out, sold and accepted
+pub record HaveTheSame (h g : History) : Type 0 where
+  pub paid_in : paid_in g ≡ paid_in h
+  pub paid_out : paid_out g ≡ paid_out h
+  pub accounts : all_balances g ≡ all_balances h
+  pub fees : fees g ≡ fees h
+  pub takings : takings g ≡ takings h
+  pub accepted : accepted g ≡ accepted h
+  pub sales : sales g ≡ sales h
+  pub handed_out : own_out g ≡ own_out h
+
+-- Where an entry only moves the time, all else is as it was.
+abbrev pub TimeMovesAlone : Type 0
+TimeMovesAlone = (h : History) (e : Entry) → OnlyTells e → HaveTheSame h (h ++ e ∷ [])

@@ -3,14 +3,15 @@ mints, and of three wallets. `scripts/try/schedules.py` looks through more of th
 import re
 from types import SimpleNamespace
 
-from forms import MOMENTS, Terms, id_of, read_scrip
+from forms import MOMENTS, Terms, id_of, read_scrip, reply_signature
 from generate import LIFE, NOW, PERIOD, Cases, Numbers
-from ledger import FULL, History, Limits, follow
+from ledger import FULL, History, Limits, follow, reply_bytes
 from payloads import (
     ACCEPT, ACCOUNT, BROKER, DEPOSIT, GOODS, GOT, LICENCE, MINT, NOTE, SITE, STOCK, SWITCH, TERMS, UPGRADE, VENDOR, WITHDRAW,
     entry_of)
+from replies import Reply
 from schedule import EVENTS, World
-from wallet import GET, WALLET, Request, WalletBook
+from wallet import GET, WALLET, Request, WalletBook, reply_line
 
 NEWS, BANK, SHOP = b"news.example", b"bank", b"shop.example"
 KEYS = {b"ann": b"\x07" * 16, b"bob": b"\x08" * 16}
@@ -106,19 +107,19 @@ def wallets(shared=False):
 
 class Grower:
     """Plays events that it makes up, and keeps them. Wallets share no account, unless it is said. Where a forger knows secrets he
-    signs with those of pieces that wallets hold."""
+    signs requests with those of pieces that wallets hold, where he makes replies he signs replies with them."""
 
-    def __init__(self, numbers, houses, wallets, limits, shares=False, knows=False):
+    def __init__(self, numbers, houses, wallets, limits, shares=False, knows=False, replies=False):
         self.numbers, self.world, self.events = numbers, World(houses, wallets, limits), []
-        self.shares, self.knows = shares, knows
+        self.shares, self.knows, self.makes_replies = shares, knows, replies
         self.now, self.count, self.answered = NOW, 0, []
 
     def do(self, verb, *values):
-        """An event. Of each reply it is kept which message it answers."""
+        """An event. Of each reply it is kept which message it answers; of one that somebody else sends, none."""
         self.events.append((verb, *values))
         EVENTS[verb](self.world, *values)
         if len(self.world.replies) > len(self.answered):
-            self.answered.append(values[0])
+            self.answered.append(values[0] if verb == "deliver" else None)
 
     def step(self):
         """One event, or a few that belong together."""
@@ -129,8 +130,10 @@ class Grower:
             self.ask()
         elif chance < 34:
             self.do("again", n.below(3), n.of((NEWS, BANK, SHOP)))
-        elif chance < 39:
+        elif chance < 38:
             self.forge()
+        elif chance < 41:
+            self.tell()
         elif chance < 66:
             self.deliver()
         elif chance < 92:
@@ -177,6 +180,23 @@ class Grower:
             one.replace(b"/a", b"/b"), re.sub(rb"Millicent-Sign: ..", b"Millicent-Sign: 00", one),
             opened.replace(b"GET", b"HEAD", 1) + other, b"GET" + one[3:].replace(b"1.1\r", b"1.0\r", 1) + other)[way])
 
+    def tell(self):
+        """A reply that somebody makes of those that were sent; where he has the secrets, one that he signs himself."""
+        n, sent = self.numbers, [reply for reply in self.world.replies if reply]
+        kept = [request for purse in self.world.wallets for _, request in purse.book.kept() if request.ask == GET]
+        if kept and self.makes_replies:
+            self.do("tell", signed_reply(n.of(kept)))
+            return
+        if not sent:
+            self.do("tell", n.of((b"", b"\r\n", b"HTTP/1.1 200 OK\r\n\r\n", b"x" * 8192)))
+            return
+        one, other, way = n.of(sent), n.of(sent), n.below(9)
+        at = n.below(len(one) + 1)
+        self.do("tell", (
+            one, one + other, one[:at], one[:at] + bytes([n.below(256)]) + one[at + 1:], b"\r\n\n" + one,
+            one.replace(b"HTTP/1.1 200 OK", b"HTTP/1.0 200"), re.sub(rb"Millicent-Change: [^\r]*", b"Millicent-Change: -", one),
+            re.sub(rb"Millicent-Price: [0-9]*", b"Millicent-Price: 1", one), re.sub(rb"Millicent-Sign: ..", b"Millicent-Sign: 00", one))[way])
+
     def deliver(self):
         n, sent = self.numbers, len(self.world.messages)
         message = sent - 1 if sent and n.below(2) else n.below(sent + 2)
@@ -198,10 +218,10 @@ class Grower:
             self.do("return", reply, j, n.of(kept), reading)
 
     def fitting(self, reply):
-        """The kept requests, with their wallets, that stand in the message that a reply answers."""
-        message = self.world.messages[self.answered[reply]]
+        """The kept requests, with their wallets, that stand in the message that a reply answers; all where it answers none."""
+        message = None if self.answered[reply] is None else self.world.messages[self.answered[reply]]
         return [(j, number) for j, purse in enumerate(self.world.wallets) for number, request in purse.book.kept()
-                if request.sign() in message]
+                if message is None or request.sign() in message]
 
     def enter(self):
         """An operator's entry, which may follow or not."""
@@ -223,6 +243,14 @@ class Grower:
             (ACCEPT, dict(scrip=piece(ONE, NEWS, 25, 9)[0], target=b"/a", sign=None, price=25, change=None, deed=(0,)))))
         payload = entry_of(kind, moment, **values).payload
         self.do("enter", of, payload[:-1] if not n.below(12) else payload)
+
+
+def signed_reply(request):
+    """A page that no site sold, signed with the secret of the piece that is to pay: its price is all that the piece is worth."""
+    price = str(read_scrip(request.scrip).value)
+    reply = Reply(200, None, price.encode(), b"-", b"", b"Nobody's page.\n")
+    sign = reply_signature(request.paid, request.target, reply_line(reply), reply.contents, request.secret)
+    return reply_bytes(200, NOW, 1, "-", price, "-", sign.hex(), reply.contents)
 
 
 def limits_of(numbers, houses):

@@ -1,6 +1,6 @@
 use Rattle.std.proofs.Common.{ℕ, List, subst}
 use Rattle.std.specs.Prelude.{OnOk}
-use Rattle.world_model.specs.Worlds.{Enter, Forge, Happens}
+use Rattle.world_model.specs.Worlds.{Enter, Forge, Tell, Happens}
 use Rattle.mc_world.specs.declared.event.Event.TheVariants as events
 use Rattle.mc_world.specs.Games.{world_of}
 use Rattle.mc_world.proofs.Happening.{happens_as}
@@ -17,6 +17,9 @@ returns-in-Again c = record { happens = happens_as c.args.limits (world_of c.arg
 
 pub returns-in-Forge : goal.returns-in-Forge
 returns-in-Forge c = record { happens = happens_as c.args.limits (world_of c.args.game.now) (world_of c.forge.new.game) c.args.event.now (events.Forge c.in-Forge.bytes) c.forge.result c.in-Forge.is (subst (λ (b : List ℕ). OnOk c.forge.result (Happens c.args.limits (world_of c.args.game.now) (Forge b) (world_of c.forge.new.game))) c.deref-in-Forge.ensures.value (c.forge.ensures.happens c.args.limits)) }
+
+pub returns-in-Tell : goal.returns-in-Tell
+returns-in-Tell c = record { happens = happens_as c.args.limits (world_of c.args.game.now) (world_of c.tell.new.game) c.args.event.now (events.Tell c.in-Tell.bytes) c.tell.result c.in-Tell.is (subst (λ (b : List ℕ). OnOk c.tell.result (Happens c.args.limits (world_of c.args.game.now) (Tell b) (world_of c.tell.new.game))) c.deref-in-Tell.ensures.value (c.tell.ensures.happens c.args.limits)) }
 
 pub returns-in-Deliver : goal.returns-in-Deliver
 returns-in-Deliver c = record { happens = happens_as c.args.limits (world_of c.args.game.now) (world_of c.deliver_at.new.game) c.args.event.now (events.Deliver c.in-Deliver.message c.in-Deliver.house c.in-Deliver.reading) c.deliver_at.result c.in-Deliver.is c.deliver_at.ensures.happens }
