@@ -1,4 +1,4 @@
-ghost use Rattle.std.specs.Prelude.{◌≡◌, ◌+◌, ◌<◌, ◌≤◌, ◌==◌, ℕ, Err, [], ◌∷◌, ◌++◌, MatchResult, OnOk, OnErr, length, max, None, Some, Ok, IfOk, IfErr, IfSome, is_ok};
+ghost use Rattle.std.specs.Prelude.{◌≡◌, ◌+◌, ◌<◌, ◌≤◌, ◌==◌, ℕ, Err, [], ◌∷◌, ◌++◌, MatchResult, OnOk, OnErr, length, max, None, Some, Ok, IfOk, IfErr, is_ok};
 ghost use Rattle.mc_requests.specs.declared.limits.Limits.{Limits as Bounds};
 ghost use Rattle.mc_requests.specs.Limits.{AreInRange};
 ghost use Rattle.mc_records.specs.Chains.{TellsChain};
@@ -23,7 +23,7 @@ ghost use Rattle.house_state.specs.LiveWindows.{AreUsed, live_windows};
 ghost use Rattle.house_state.specs.Trade.{IsKeptFrom, OfGoods, NamesInForce};
 ghost use Rattle.kept_replies.specs.Kept.{first_number};
 ghost use Rattle.house_state.specs.declared.verdict.Verdict.TheVariants as verdicts;
-ghost use Rattle.house_state.specs.Verdicts.{judged, judged_of, repeat_of, accept_entry, draw_entry, authorized_entry, AreUsedFor, BringsAs, HasRoomToCommit, IsOfNew, MayCommit, OfDeed};
+ghost use Rattle.house_state.specs.Verdicts.{judged, judged_of, accept_entry, draw_entry, authorized_entry, AreUsedFor, BringsAs, HasRoomToCommit, IsOfNew, MayCommit, OfDeed};
 
 use crate::fault::{BenchFault, EnterFault};
 use crate::tally::Tally;
@@ -172,20 +172,6 @@ impl<T: Trade> Bench<T> {
             Ok(_authorization) => Verdict::Take,
             Err(NotAuthorized::Refused(refusal)) => Verdict::Refused(refusal),
             Err(NotAuthorized::Again(number)) => Verdict::Again(number.number()),
-        }
-    }
-
-    /// The number of the entry whose first reply a request gets, where it comes again at the house time.
-    /// It takes no memory.
-    pub fn repeated(&self, q: &Request<'_>) -> Option<u64>
-        ensures kept { IfSome result (KeepsReply self.now) }
-        ensures exact { (h : History) → IsHouse T.trade self.now h
-            → result ≡ repeat_of (model.answer h (house_time self.now) (limits_of self.now) (asked_of q.now)) }
-    {
-        match self.judge(q) {
-            Verdict::Again(number) => Some(number),
-            Verdict::Refused(_) => None,
-            Verdict::Take => None,
         }
     }
 

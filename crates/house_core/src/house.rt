@@ -1,6 +1,6 @@
 //! A house over a journal: what is accepted is on the disk before its reply can begin.
 
-ghost use Rattle.std.specs.Prelude.{◌≡◌, ◌<◌, ◌≤◌, ◌+◌, ◌*◌, ◌^◌, ◌∷◌, [], ℕ, length, max, IfErr, IfSome, IsSome, None, Some, Ok};
+ghost use Rattle.std.specs.Prelude.{◌≡◌, ◌<◌, ◌≤◌, ◌+◌, ◌*◌, ◌^◌, ◌∷◌, [], ℕ, length, max, IfErr, IsSome, None, Some, Ok};
 ghost use Rattle.mc_outside.specs.DiskView.{Ran};
 ghost use Rattle.scrip_form.specs.Identities.{series_of};
 ghost use Rattle.scrip_form.specs.Issuing.{Issuing};
@@ -24,7 +24,7 @@ ghost use Rattle.house_core.specs.Bench.{IsHouse, KeepsReply, house_time, limits
 ghost use Rattle.house_state.specs.Trade.{OfGoods, NamesInForce};
 ghost use Rattle.house_state.specs.Replying.{IsOfSite};
 ghost use Rattle.house_state.specs.declared.verdict.Verdict.TheVariants as verdicts;
-ghost use Rattle.house_state.specs.Verdicts.{judged, judged_of, repeat_of, authorized_entry, payload_of, BringsAs, IsOfNew, MayCommit, OfDeed};
+ghost use Rattle.house_state.specs.Verdicts.{judged, judged_of, authorized_entry, payload_of, BringsAs, IsOfNew, MayCommit, OfDeed};
 ghost use Rattle.house_core.specs.Refusing.{IsAmong};
 ghost use Rattle.house_core.specs.House.{HouseRepresents, HandsBack, HasRun, KeepsTime, RaisedTo, IfDone, IfRefused, Accepted, Responds, Entered, Leaves, number_in, outcome_disk};
 
@@ -187,16 +187,6 @@ impl<D: Disk, T: Trade> House<D, T> {
             → judged_of result ≡ judged (model.answer h (house_time self.now.bench) (limits_of self.now.bench) (asked_of q.now)) }
     {
         self.bench.judge(q)
-    }
-
-    /// The number of the entry whose first reply a request gets, where it comes again at the house time.
-    /// It takes no memory.
-    pub fn repeated(&self, q: &Request<'_>) -> Option<u64>
-        ensures kept { IfSome result (KeepsReply self.now.bench) }
-        ensures exact { (h : History) → HouseRepresents D.disk T.trade self.now h
-            → result ≡ repeat_of (model.answer h (house_time self.now.bench) (limits_of self.now.bench) (asked_of q.now)) }
-    {
-        self.bench.repeated(q)
     }
 
     /// Raises the house time to a reading of the clock where that is later, and answers it. The disk is
