@@ -20,7 +20,7 @@ ghost use Rattle.audit_cmd.specs.Reading.{Reads};
 
 use audit_model::Part;
 use audit_sums::BookSums;
-use house_core::{Bench, SpentPiece};
+use house_core::{ReadingBench, SpentPiece};
 use house_state::Trade;
 use mc_base::NoMemory;
 use mc_records::Record;
@@ -32,7 +32,7 @@ use std::alloc::Global;
 /// an audit needs.
 #[derive(Drop)]
 pub(crate) struct Reader<T> {
-    bench: Bench<T>,
+    bench: ReadingBench<T>,
     sums: BookSums,
 }
 
@@ -47,7 +47,7 @@ impl<T: Trade> Reader<T> {
         ensures may { MayFollow Limits.FULL [] (entry first.now) }
         ensures holds { IfOk result (λ r. Reads T.trade r (entry first.now ∷ [])) }
     {
-        let bench = Bench::for_reading(alloc, first, Limits::FULL, trade)?;
+        let bench = ReadingBench::new(alloc, first, Limits::FULL, trade)?;
         Ok(Reader {
             bench,
             sums: BookSums::new(alloc, first),

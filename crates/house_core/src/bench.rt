@@ -95,33 +95,6 @@ impl<T: Trade> Bench<T> {
         }
     }
 
-    /// The same house, but that it keeps no reply: for whoever only asks which entries may follow, to whom none is needed
-    /// ([`ledger_model::taking_needs_no_replies`]).
-    pub fn for_reading(
-        alloc: Global,
-        site: &Record<'_>,
-        limits: Limits,
-        trade: T,
-    ) -> Result<Bench<T>, NoMemory>
-        requires limits { AreInRange limits }
-        requires site { FoundsHouse (entry site.now) }
-        requires first { MayFollow limits [] (entry site.now) }
-        requires kind { site_kind (entry site.now ∷ []) ≡ Some (T.trade trade).site }
-        requires trade { (T.trade trade).represents [] }
-        ensures holds { IfOk result (λ b. Represents T.trade b (entry site.now ∷ [])) }
-        ensures time { IfOk result (λ b. house_time b ≡ moment_of (entry site.now)) }
-        ensures limits { IfOk result (λ b. limits_of b ≡ limits) }
-        ensures used { IfOk result (λ b. AreUsed (windows_of b)) }
-        ensures tally { IfOk result (λ b. tally_of b ≡ no_tally) }
-        ensures within { IfOk result IsTallied }
-        ensures keep { IfOk result (λ b. b.state.kept.keep ≡ 0) }
-        ensures none { IfOk result (λ b. b.state.kept.replies ≡ []) }
-    {
-        let mut bench = Bench::new(alloc, site, limits, trade)?;
-        bench.state.keep_none();
-        Ok(bench)
-    }
-
     /// Its trade.
     pub fn trade(&self) -> &T
         ensures { (h : History) → Represents T.trade self.now h
@@ -181,6 +154,7 @@ impl<T: Trade> Bench<T> {
     pub fn raise(&mut self, reading: Moment) -> Moment
         ensures time { result ≡ max (house_time self.old) reading }
         ensures raised { house_time self.new ≡ max (house_time self.old) reading }
+        ensures keep { self.new.state.kept.keep ≡ self.old.state.kept.keep }
         ensures limits { limits_of self.new ≡ limits_of self.old }
         ensures tally { tally_of self.new ≡ tally_of self.old }
         ensures count { self.new.state.count ≡ self.old.state.count }
@@ -268,6 +242,9 @@ impl<T: Trade> Bench<T> {
     /// Enters an entry by a command of the house's operator, whose moment is not before the last entry's, and
     /// answers its number, from 0. The house time is then raised to that moment where it is later. The only
     /// refusal is 33 JournalFull. After an `Err` the house is as it was, and so is its time.
+    ///
+    /// A Switch has to have the chain of the entries before it. A bench keeps no chain and compares none: whoever enters
+    /// a Switch has to know it, and where it has another nothing is promised.
     pub fn enter(&mut self, r: &Record<'_>) -> Result<u64, EnterFault>
         requires fits { Fits (entry r.now) }
         requires command { IsCommand (entry r.now) }
@@ -377,6 +354,7 @@ impl<T: Trade> Bench<T> {
         ensures time { MatchResult result
             (λ n. house_time self.new ≡ max (house_time self.old) (moment_of (entry r.now)))
             (λ f. house_time self.new ≡ house_time self.old) }
+        ensures keep { self.new.state.kept.keep ≡ self.old.state.kept.keep }
         ensures limits { limits_of self.new ≡ limits_of self.old }
         ensures used { AreUsed (windows_of self.old) → AreUsed (windows_of self.new) }
         ensures tally { tally_of self.new ≡ tally_of self.old }
@@ -480,6 +458,7 @@ impl<T: Trade> Bench<T> {
         requires state { HasRoomToCommit self.old.state q.now authorization.now }
         ensures kept { 0 < self.old.state.kept.keep → KeepsReply self.new result }
         ensures time { house_time self.new ≡ house_time self.old }
+        ensures keep { self.new.state.kept.keep ≡ self.old.state.kept.keep }
         ensures limits { limits_of self.new ≡ limits_of self.old }
         ensures tally { tally_of self.new ≡ tally_of self.old }
         ensures more { self.new.state.count ≡ self.old.state.count + 1 }

@@ -43,23 +43,28 @@ use std::alloc::Global;
 use std::marker::Model;
 
 /// A house over a journal that it owns and never lends. It is handed back by each call that writes an
-/// entry, unless the disk fails in that call. Contracts see it as the record `HouseView`.
+/// entry, unless the disk fails in that call. It keeps replies for some time, so that each request that is taken is
+/// answered. Contracts see it as the record `HouseView`.
 pub struct House<D, T> {
     pub(crate) journal: Journal<D>,
     pub(crate) bench: Bench<T>,
 }
 
 impl<D, T> Model for House<D, T> {
+    ghost use Rattle.std.specs.Prelude.{◌<◌};
     ghost use Rattle.house_core.specs.HouseView.{HouseView};
 
     ghost Value = { HouseView D T };
 
     ghost view = { λ x. record { journal = x.journal; bench = x.bench } };
+
+    ghost invariant = { λ x. 0 < x.bench.state.kept.keep };
 }
 
 impl<D: Disk, T: Trade> House<D, T> {
-    /// The house of a journal and of the bench that was made of its entries.
-    pub fn new(journal: Journal<D>, bench: Bench<T>) -> House<D, T>
+    /// The house of a journal and of the bench that was made of its entries. It keeps replies: where the bench kept none,
+    /// for one second.
+    pub fn new(journal: Journal<D>, mut bench: Bench<T>) -> House<D, T>
         ensures stands { (h : History) → IsJournal D.disk journal h → IsHouse T.trade bench h
             → journal.limit ≡ (limits_of bench).journal
             → HouseRepresents D.disk T.trade result h }
@@ -67,6 +72,7 @@ impl<D: Disk, T: Trade> House<D, T> {
         ensures time { house_time result.bench ≡ house_time bench }
         ensures limits { limits_of result.bench ≡ limits_of bench }
     {
+        bench.state.keep_some();
         House { journal, bench }
     }
 
@@ -241,24 +247,6 @@ impl<D: Disk, T: Trade> House<D, T> {
             → Ran (D.disk self.journal.disk) (D.disk (outcome_disk result))
             (Leaves (model.answer h (house_time self.bench) (limits_of self.bench) q.now) result h (D.disk self.journal.disk).aside) }
     {
-        let House { journal, mut bench } = self;
-        bench.state.keep_some();
-        House { journal, bench }.respond_kept(q)
-    }
-
-    /// The same, where replies are kept.
-    fn respond_kept(self, q: &Presented<'_>) -> Outcome<D, T, Response>
-        requires keeps { 0 < self.bench.state.kept.keep }
-        requires target { IsTarget q.now.target }
-        ensures back { HandsBack D.disk D.disk_moved (KeepsTime self) self.journal.disk result }
-        ensures site { IfRefused IsOfSite result }
-        ensures kept { IfDone (λ x r. KeepsReply x.bench (number_in r)) result }
-        ensures exact { (h : History) → HouseRepresents D.disk T.trade self h
-            → Responds D.disk T.trade self.journal.disk h (model.answer h (house_time self.bench) (limits_of self.bench) q.now) result }
-        ensures ran { (h : History) → HouseRepresents D.disk T.trade self h
-            → Ran (D.disk self.journal.disk) (D.disk (outcome_disk result))
-            (Leaves (model.answer h (house_time self.bench) (limits_of self.bench) q.now) result h (D.disk self.journal.disk).aside) }
-    {
         let House { journal, bench } = self;
         match evaluate(&bench.state, bench.state.limits(), &bench.trade, q) {
             Ok(authorization) => House { journal, bench }.commit(q, authorization),
@@ -273,7 +261,6 @@ impl<D: Disk, T: Trade> House<D, T> {
 
     /// Commits a request that was evaluated: makes room for its entry, writes it and enters it.
     fn commit(self, q: &Presented<'_>, authorization: Authorized<'_, '_>) -> Outcome<D, T, Response>
-        requires keeps { 0 < self.bench.state.kept.keep }
         requires target { IsTarget q.now.target }
         requires new { IsOfNew self.bench.state q.now authorization }
         requires held { OfDeed (OfGoods (T.trade self.bench.trade).holds) authorization }

@@ -1,7 +1,7 @@
 //! A house: a site that takes scrip and gives something for it, by what it keeps and what it says of a
 //! request. Here is how it takes an entry and how it answers, in memory or over a journal.
 //!
-//! `Bench::new` and `Bench::replay` take memory, and so do the calls `accept`, `respond`, `answer` and
+//! `new` and `replay` of a bench take memory, of one that is only read too, and so do the calls `accept`, `respond`, `answer` and
 //! `enter` of a bench or of a house. No other call of this crate does.
 #![tactic(auto)]
 
@@ -11,6 +11,7 @@ mod fault;
 mod gathering;
 mod house;
 mod outcome;
+mod reading;
 mod replaying;
 mod reply;
 mod sending;
@@ -25,6 +26,7 @@ pub use bench::Bench;
 pub use fault::{BenchFault, EnterFault};
 pub use house::House;
 pub use outcome::{Outcome, Response};
+pub use reading::ReadingBench;
 pub use reply::ReplyRoom;
 pub use sending::{send_again, send_disk_fault, send_kept, send_refusal, send_settled};
 pub use settled::{Settled, drop_settled};

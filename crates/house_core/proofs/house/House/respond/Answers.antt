@@ -5,7 +5,7 @@ use Rattle.ledger_model.specs.Answer.{Answer, answer}
 use Rattle.ledger_model.proofs.WithinLaws.{within_keeping}
 use Rattle.house_core.specs.House.{Responds, Leaves, outcome_disk}
 use Rattle.house_core.proofs.HouseDisk.{ran_nothing, ran_refused, ran_again, responds_refused, responds_again}
-use Rattle.house_core.proofs.house.House.respond_kept.Goals as goal
+use Rattle.house_core.proofs.house.House.respond.Goals as goal
 
 pub returns-in-Ok-clause-exact : goal.returns-in-Ok-clause-exact
 returns-in-Ok-clause-exact g c = rw (← c.self.view_is, ← c.bench.view_is) (λ h st.

@@ -1,10 +1,9 @@
 use Rattle.std.proofs.Common.{[], ◌∷◌, refl, sym, subst}
 use Rattle.mc_records.specs.Views.{entry}
 use Rattle.house_state.specs.HouseState.{HouseStateView}
-use Rattle.house_state.specs.LiveWindows.{AreUsed}
 use Rattle.house_state.specs.Representation.{StateRepresents}
 use Rattle.house_core.proofs.Founded.{stands_keeping}
-use Rattle.house_core.proofs.bench.Bench.for_reading.Goals as goal
+use Rattle.house_core.proofs.reading.ReadingBench.new.Goals as goal
 
 pub returns-clause-holds : goal.returns-clause-holds
 returns-clause-holds g c =
@@ -16,6 +15,3 @@ returns-clause-holds g c =
       learned = st.learned;
       of_kind = st.of_kind;
     }
-
-pub returns-clause-used : goal.returns-clause-used
-returns-clause-used g c = subst (λ (b : HouseStateView). AreUsed b.spent) (sym c.keep_none.ensures.rest) (rw (← c.bench.view_is) at c.in_ok-bench.ensures.used)
