@@ -1,14 +1,26 @@
 #!/usr/bin/env python3
-"""Writes the man page `docs/millicent.1` from the tables of the program: the words of each command and what it is
-for (`crates/command_table`), the statuses with their lines (`status.rt`), the refusals (`crates/mc_requests`), and the forms of the words
-(`docs/FORMATS.md`). With `--check` nothing is written: the status is 1 where the page is not what they say. A table that is not
-found, or a row that can't be read, is an error."""
+"""Writes the man page `docs/millicent.1` and the completion of bash `scripts/millicent.bash` from the tables of the program: the
+words of each command (`crates/command_table`), what it is for, what its words mean and an example (`crates/command_help`), the
+statuses with their lines (`status.rt`), the refusals (`crates/mc_requests`), and the forms of the words (`docs/FORMATS.md`).
+
+    scripts/man.py [--check [PROGRAM]]
+
+With `--check` nothing is written: the status is 1 where one of the two is not what they say, where the table of commands in README.md
+has other words, and where PROGRAM prints other help. Without PROGRAM it is the one that MILLICENT names, or else the one that the gate
+built, where it is no older than those two crates; where there is none, none is asked. A table that is not found, or a row that can't
+be read, is an error."""
+import os
 import re
+import subprocess
 import sys
 from pathlib import Path
 
 TOP = Path(__file__).resolve().parent.parent
 PAGE = TOP / "docs/millicent.1"
+COMPLETION = TOP / "scripts/millicent.bash"
+BUILT = TOP / "crates/millicent/out/millicent"
+# What a page of help is made of.
+HELP = ("command_help", "command_table")
 # Crates that ask the ledger or a cases' line, or play schedules: no command stands over them.
 BESIDE = {"mc_requests", "case_lines", "cases", "slow_ledger", "slow_sums", "slow_wallet", "mc_world"}
 
@@ -70,32 +82,64 @@ def documented(text, variant, where):
     return rows
 
 
+def literals(text, where):
+    """The texts between quotes, as the program has them."""
+    escaped = {"n": "\n", '"': '"', "\\": "\\"}
+    found = re.findall(r'"((?:[^"\\]|\\.)*)"', text, re.S)
+    if not found:
+        fail("%s: no text in %r" % (where, text))
+    return [re.sub(r"\\(.)", lambda it: escaped[it[1]], re.sub(r"\\\n\s*", "", literal)) for literal in found]
+
+
 def parameters():
-    """Of each parameter how it is written in a usage line."""
+    """Of each parameter its name, how it is written in a usage line, and what it means."""
     text = source("crates/command_table/src/parameter.rt")
     names, shapes = {}, {}
     for variants, name in re.findall(r'((?:\|?\s*Parameter::\w+\s*)+)=> "(\w+)",', part(text, "fn name(self)", "\n    }\n", "parameter.rt")):
         names.update((variant, name) for variant in re.findall(r"Parameter::(\w+)", variants))
-    for variants, shape in re.findall(r"((?:\|?\s*Parameter::\w+\s*)+)=> Shape::(\w+)", part(text, "fn shape(self)", "\n    }\n", "parameter.rt")):
+    for variants, shape in re.findall(r"((?:\|?\s*Parameter::\w+\s*)+)=> \{?\s*Shape::(\w+)", part(text, "fn shape(self)", "\n    }\n", "parameter.rt")):
         shapes.update((variant, shape) for variant in re.findall(r"Parameter::(\w+)", variants))
-    if set(names) != set(shapes):
-        fail("parameter.rt: names and shapes are not of the same parameters")
+    meanings = part(source("crates/command_help/src/parameters.rt"), "fn meaning_of(", "\n}\n", "parameters.rt")
+    means = {variant: literals(meaning, "parameters.rt")[0]
+             for variant, meaning in re.findall(r'Parameter::(\w+) => (?:\{\s*)?(".*?")', meanings)}
+    if set(names) != set(shapes) or set(names) != set(means):
+        fail("names, shapes and meanings are not of the same parameters")
     forms = {"One": "%s", "Places": "%s..", "Setting": "[--%s VALUE]", "Flag": "[--%s]"}
-    return {variant: forms[shapes[variant]] % name for variant, name in names.items()}
+    options = {"Setting": "--", "Flag": "--"}
+    return {variant: (options.get(shapes[variant], "") + name, forms[shapes[variant]] % name, means[variant]) for variant, name in names.items()}
+
+
+class Command:
+    """A command: its role, its name, its parameters, and what is said of it."""
+
+    def __init__(self, role, name, words, texts):
+        self.role, self.name, self.words = role, name, words
+        self.line, self.more, self.example = texts
+
+    def usage(self):
+        return " ".join(["millicent", self.role, self.name, *(shown for _, shown, _ in self.words)])
 
 
 def commands():
-    """Of each command: its words, and what it is for."""
+    """All commands, in the order of the table."""
     table, written = source("crates/command_table/src/table.rt"), parameters()
-    docs = documented(part(table, "pub enum CommandName {", "\n}", "table.rt"), r"(\w+),", "table.rt")
+    order = re.findall(r"CommandName::(\w+),", part(table, "pub static COMMANDS", "];", "table.rt"))
     rows = re.findall(r'CommandName::(\w+) => row\(\s*"(\w+)",\s*"(\w+)",\s*&\[(.*?)\],?\s*\),', table, re.S)
-    if [row[0] for row in rows] != [name for name, _ in docs]:
-        fail("table.rt: the commands and their rows are not the same")
-    docs = dict(docs)
-    return [
-        (" ".join(["millicent", role, name, *(written[it] for it in re.findall(r"\w+", words))]), docs[command])
-        for command, role, name, words in rows
-    ]
+    texts = part(source("crates/command_help/src/commands.rt"), "fn text_of(", "\n}\n", "commands.rt")
+    said = {name: literals(row, "commands.rt") for name, row in re.findall(r"CommandName::(\w+) => text\((.*?)\n        \),", texts, re.S)}
+    if [row[0] for row in rows] != order or set(said) != set(order) or not all(len(row) == 3 for row in said.values()):
+        fail("the commands, their rows and their texts are not the same")
+    return [Command(role, name, [written[it] for it in re.findall(r"\w+", words)], said[command]) for command, role, name, words in rows]
+
+
+def role_lines():
+    """Of each role, in order, who has it and what for."""
+    text = part(source("crates/command_help/src/commands.rt"), "fn role_line(", "\n}\n", "commands.rt")
+    found = dict(re.findall(r'"(\w+)" => "(.*)",', text))
+    roles = list(dict.fromkeys(command.role for command in commands()))
+    if set(found) != set(roles):
+        fail("commands.rt: the roles are not those of the table")
+    return {role: found[role] for role in roles}
 
 
 def forms(head):
@@ -194,15 +238,34 @@ def ended(line, doc):
     return ": ".join(text for text in (said, plain(doc)) if text) + "\n"
 
 
+def explained(command):
+    """The entry of a command."""
+    text = command.line[0].upper() + command.line[1:] + ".\n" + command.more
+    example = ".nf\n%s.fi\n" % "".join("\\&    %s\n" % plain(line) for line in command.example.splitlines())
+    return entry(command.role + " " + command.name, text.rstrip("\n")) + example
+
+
+def meanings(listed):
+    """Of each word what it means, in the order in which the commands have them."""
+    found = {}
+    for command in listed:
+        for name, _, meaning in command.words:
+            if meaning not in found.setdefault(name, []):
+                found[name].append(meaning)
+    return [(name, "; or ".join(several)) for name, several in found.items()]
+
+
 def page():
     out = [HEAD, ".SH SYNOPSIS\n"]
     listed = commands()
-    for line, _ in listed:
-        out.append(".nf\n%s\n.fi\n" % words(line))
+    for command in listed:
+        out.append(".nf\n%s\n.fi\n" % words(command.usage()))
+    out.append(".nf\n\\fBmillicent\\fR [ROLE [COMMAND]] \\fB\\-\\-help\\fR\n.fi\n.nf\n\\fBmillicent \\-\\-version\\fR\n.fi\n")
     out += [DESCRIPTION, ".SH COMMANDS\n"]
-    for line, doc in listed:
-        out.append(entry(" ".join(line.split(" ")[1:3]), doc))
+    out += [explained(command) for command in listed]
     out.append(".SH WORDS\nOptions stand before, between or behind the other words; behind a word \\fB\\-\\-\\fR no word is an option.\n")
+    out += [entry(name, meaning) for name, meaning in meanings(listed)]
+    out.append(".PP\nTheir forms:\n")
     for word, form in forms("| Word | Form |"):
         out.append(entry(word, form))
     out.append(".PP\nTexts are of these bytes:\n")
@@ -222,15 +285,162 @@ def page():
     return "".join(out)
 
 
+SHELL = r"""# Completes the words of millicent in bash, once it was read: `. scripts/millicent.bash`.
+# Written by scripts/man.py from the tables of the program; not by hand.
+_millicent() {
+    local current=${COMP_WORDS[COMP_CWORD]} role=${COMP_WORDS[1]-} command=${COMP_WORDS[2]-}
+    local at=1 first=3 roles='@ROLES@' commands= options= books= before=0
+    if [ "$role" = help ]; then
+        role=${COMP_WORDS[2]-} command= at=2 first=4
+    fi
+    case $role in
+@COMMANDS@
+    esac
+    case "$role $command" in
+@OPTIONS@
+    esac
+    COMPREPLY=()
+    if [ "$COMP_CWORD" -eq "$at" ]; then
+        [ "$at" -eq 2 ] || roles+=' help --help --version'
+        mapfile -t COMPREPLY < <(compgen -W "$roles" -- "$current")
+    elif [ "$COMP_CWORD" -eq $((at + 1)) ]; then
+        [ "$at" -eq 2 ] || [ -z "$commands" ] || commands+=' help --help'
+        mapfile -t COMPREPLY < <(compgen -W "$commands" -- "$current")
+    elif [ "$at" -eq 1 ]; then
+        _millicent_words
+    fi
+}
+
+# What may come after the name of a command: an option, or a file where the next word is a book.
+_millicent_words() {
+    local place word skip=0
+    for ((place = first; place < COMP_CWORD; place++)); do
+        word=${COMP_WORDS[place]}
+        case $word in
+            =) skip=1 ;;
+            @SETTINGS@) skip=1 ;;
+            --*) skip=0 ;;
+            *)
+                [ "$skip" -eq 1 ] || before=$((before + 1))
+                skip=0
+                ;;
+        esac
+    done
+    [ "$skip" -eq 0 ] || return 0
+    [ "$COMP_CWORD" -ne "$first" ] || options+=' --help'
+    case $current in
+        -*) mapfile -t COMPREPLY < <(compgen -W "$options" -- "$current") ;;
+        *)
+            if [ "$before" -lt "${books:-0}" ]; then
+                compopt -o filenames 2> /dev/null
+                mapfile -t COMPREPLY < <(compgen -f -- "$current")
+            fi
+            ;;
+    esac
+}
+
+complete -F _millicent millicent
+"""
+
+
+def completion():
+    """The completion of bash: roles, the commands of a role, the options of a command, and files where a book comes next."""
+    listed, roles, rows, settings = commands(), [], [], []
+    for command in listed:
+        names = [name for name, _, _ in command.words if not name.startswith("--")]
+        if "BOOK" in names[1:]:
+            fail("%s %s: its book is not the first word" % (command.role, command.name))
+        options = [name for name, _, _ in command.words if name.startswith("--")]
+        settings += [name for name, shown, _ in command.words if shown.endswith("VALUE]") and name not in settings]
+        books = 9999 if "BOOK.." in command.usage() else int("BOOK" in names)
+        said = ["options='%s'" % " ".join(options)] * bool(options) + ["books=%d" % books] * bool(books)
+        if said:
+            rows.append("        '%s %s') %s ;;" % (command.role, command.name, " ".join(said)))
+    for role in role_lines():
+        names = " ".join(command.name for command in listed if command.role == role)
+        roles.append("        %s) commands='%s' ;;" % (role, names))
+    text = SHELL.replace("@ROLES@", " ".join(role_lines())).replace("@COMMANDS@", "\n".join(roles))
+    return text.replace("@OPTIONS@", "\n".join(rows)).replace("@SETTINGS@", " | ".join(settings))
+
+
+def readme():
+    """What the table of commands in README.md has other than the program: lines of the words that lack, and of those that are no command's."""
+    table = part(source("README.md"), "\n## The commands\n", "\n## ", "README.md")
+    found = []
+    for cell in re.findall(r"^\| (`(?:vendor|broker|wallet|audit) .*?) \|", table, re.M):
+        first, *others = re.findall(r"`([^`]+)`", cell)
+        first = re.sub(r"(--\w+) [A-Z]+\]", r"\1 VALUE]", first)
+        found.append(first)
+        found += [role + first[first.index(" "):] for role in others]
+    wanted = [command.usage().removeprefix("millicent ") for command in commands()]
+    for line in wanted:
+        if line not in found:
+            yield "README.md: its table of commands lacks `%s`" % line
+    for line in found:
+        if line not in wanted or found.count(line) > 1:
+            yield "README.md: its table of commands has `%s`" % line
+
+
+def program(given):
+    """The program that is asked for its help, or None."""
+    named = given or os.environ.get("MILLICENT")
+    if named:
+        return Path(named).resolve()
+    sources = [path for crate in HELP for path in (TOP / "crates" / crate / "src").glob("*.rt")]
+    if BUILT.is_file() and all(path.stat().st_mtime <= BUILT.stat().st_mtime for path in sources):
+        return BUILT
+    return None
+
+
+def printed(asked, *given):
+    """What the program prints of these words, with status 0."""
+    ran = subprocess.run([asked, *given], stdin=subprocess.DEVNULL, capture_output=True, text=True)
+    if ran.returncode or ran.stderr:
+        fail("%s %s: status %d: %s" % (asked, " ".join(given), ran.returncode, ran.stderr or ran.stdout))
+    return ran.stdout
+
+
+def helped(asked):
+    """What the program's help has other than the tables."""
+    top = printed(asked, "--help")
+    for command in commands():
+        said = printed(asked, command.role, command.name, "--help")
+        of_role = printed(asked, command.role, "--help")
+        wanted = [(top, command.line), (of_role, command.usage() + "\n    " + command.line + "\n")]
+        wanted += [(said, text) for text in ("usage: %s\n" % command.usage(), command.line, command.more, "example:\n    " + command.example)]
+        wanted += [(said, "  %-9s  %s" % (name, meaning)) for name, _, meaning in command.words]
+        for text, what in wanted:
+            if what not in text:
+                yield "%s: the help of `%s %s` does not have %r" % (asked, command.role, command.name, what)
+    for role, line in role_lines().items():
+        if "millicent %s: %s\n" % (role, line) not in top:
+            yield "%s: its help does not have the role %s" % (asked, role)
+    for words_ in (["-h"], ["help"]):
+        if printed(asked, *words_) != top:
+            yield "%s: %s prints another help" % (asked, words_[0])
+
+
+def compare(given):
+    """Compares what is written with the tables, and answers what differs."""
+    for path, text in ((PAGE, page()), (COMPLETION, completion())):
+        if not path.is_file() or path.read_text() != text:
+            yield "%s: not what the tables say; scripts/man.py writes it" % path.relative_to(TOP)
+    yield from readme()
+    asked = program(given)
+    if asked:
+        yield from helped(asked)
+
+
 def main():
-    text = page()
-    if sys.argv[1:] == ["--check"]:
-        if not PAGE.is_file() or PAGE.read_text() != text:
-            sys.exit("docs/millicent.1: not what the tables say; scripts/man.py writes it")
+    if sys.argv[1:2] == ["--check"] and len(sys.argv) < 4:
+        differs = list(compare(*sys.argv[2:] or [None]))
+        if differs:
+            sys.exit("\n".join(differs))
     elif sys.argv[1:]:
-        fail("usage: man.py [--check]")
+        fail("usage: man.py [--check [PROGRAM]]")
     else:
-        PAGE.write_text(text)
+        PAGE.write_text(page())
+        COMPLETION.write_text(completion())
 
 
 if __name__ == "__main__":

@@ -151,6 +151,27 @@ fn row(role: &'static str, name: &'static str, parameters: &'static [Parameter])
 }
 
 impl CommandName {
+    /// The role that the command is of.
+    pub fn role(self) -> &'static str
+        ensures { result.now ≡ (form_of self).role }
+    {
+        self.form().role
+    }
+
+    /// Its name, after the role.
+    pub fn name(self) -> &'static str
+        ensures { result.now ≡ (form_of self).name }
+    {
+        self.form().name
+    }
+
+    /// Its parameters, in the order of their words.
+    pub fn parameters(self) -> &'static [Parameter]
+        ensures { result.now ≡ (form_of self).parameters }
+    {
+        self.form().parameters
+    }
+
     /// The row of the command in the table.
     #[tactic(auto, unfolding(crate::specs::Table::form_of))]
     pub(crate) fn form(self) -> CommandForm

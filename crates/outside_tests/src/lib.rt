@@ -1,5 +1,5 @@
-//! Tests of the program's edge over real files and connections: of `mc_door`, `mc_site` and `diagnostics`, by their public
-//! items alone. Nothing else stands here, so that those crates are proved without them.
+//! Tests of the program's edge over real files and connections: of `mc_door`, `mc_site`, `diagnostics` and `command_help`, by
+//! their public items alone. Nothing else stands here, so that those crates are proved without them.
 #![tactic(auto)]
 
 #[cfg(test)]
@@ -8,6 +8,8 @@ mod book;
 mod caller;
 #[cfg(test)]
 mod callers;
+#[cfg(test)]
+mod help;
 #[cfg(test)]
 mod input_faults;
 #[cfg(test)]
