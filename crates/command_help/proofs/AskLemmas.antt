@@ -1,13 +1,13 @@
 -- The words that ask for help are no command's.
-use Rattle.std.proofs.Common.{◌≡◌, ◌∙◌, Bool, true, false, refl, sym, ap, codes, List, [], ◌∷◌, Option, Some, None, IfSome}
+use Rattle.std.proofs.Common.{◌≡◌, ◌∙◌, ◌<◌, ◌≤◌, Bool, true, false, refl, sym, ap, ap₂, arith, codes, get_or, length, map, List, [], ◌∷◌, Option, Some, None, IfSome}
 use Rattle.std.specs.Str.{bytes_eq}
 use Rattle.std.proofs.lemmas.Slice.Eq.{bytes_eq-Decides}
-use Rattle.clap.specs.Walk.{Row, Text}
+use Rattle.clap.specs.Walk.{Text}
 use Rattle.clap.proofs.OnLiterals.{clap_on_literals}
 use Rattle.command_words.specs.Arguments.{command, found}
 use Rattle.command_table.specs.declared.table.CommandName.{CommandName}
 use Rattle.command_table.specs.declared.table.CommandName.TheVariants as names
-use Rattle.command_table.specs.Table.{IsRead, form_of, rules}
+use Rattle.command_table.specs.Table.{form_of, rules}
 use Rattle.command_help.specs.Asking.{AreOfNone}
 
 -- ---- each row
@@ -46,10 +46,6 @@ short_refused names.VendorInit = refl
 short_refused _ = refl
 
 -- ---- words
-
--- a command has two words at least
-pub one_is_none : (word : Text) → AreOfNone (word ∷ [])
-one_is_none word = λ name rows read. absurd (let e = read.words' in cc)
 
 -- the first is a role
 pub first_help : (first : Text) (rest : List Text) → first ≡ codes "help" → AreOfNone (first ∷ rest)
@@ -102,3 +98,25 @@ is_word word other b is t = (bytes_eq-Decides word other).0 (sym is ∙ t)
 pub anyway : {A : Type 0} {X : Type 0} (page : Option A) → X → IfSome page (λ a. X)
 anyway None x = tt
 anyway (Some a) x = x
+
+-- ---- two or three words of a list
+
+pub two_words : {A : Type 0} (f : A → Text) (words : List A) (a b : A) → a ≡ get_or words 0 a → b ≡ get_or words 1 b → 2 ≤ length words → length words < 3 → map f words ≡ f a ∷ f b ∷ []
+two_words f [] a b first second least most = absurd (omega (arith, least))
+two_words f (x ∷ []) a b first second least most = absurd (omega (arith, least))
+two_words f (x ∷ y ∷ []) a b first second least most =
+    let one : a ≡ x = first in
+    let two : b ≡ y = second in
+    ap₂ (λ (u v : Text). u ∷ v ∷ []) (ap f (sym one)) (ap f (sym two))
+two_words f (x ∷ y ∷ z ∷ words) a b first second least most = absurd (omega (arith, most))
+
+pub three_words : {A : Type 0} (f : A → Text) (words : List A) (a b c : A) → a ≡ get_or words 0 a → b ≡ get_or words 1 b → c ≡ get_or words 2 c → 3 ≤ length words → length words < 4 → map f words ≡ f a ∷ f b ∷ f c ∷ []
+three_words f [] a b c first second third least most = absurd (omega (arith, least))
+three_words f (x ∷ []) a b c first second third least most = absurd (omega (arith, least))
+three_words f (x ∷ y ∷ []) a b c first second third least most = absurd (omega (arith, least))
+three_words f (x ∷ y ∷ z ∷ []) a b c first second third least most =
+    let one : a ≡ x = first in
+    let two : b ≡ y = second in
+    let three : c ≡ z = third in
+    ap₂ (λ (u : Text) (v : List Text). u ∷ v) (ap f (sym one)) (ap₂ (λ (u v : Text). u ∷ v ∷ []) (ap f (sym two)) (ap f (sym three)))
+three_words f (x ∷ y ∷ z ∷ w ∷ words) a b c first second third least most = absurd (omega (arith, most))

@@ -1,6 +1,6 @@
 //! Which words ask for help.
 
-ghost use Rattle.std.specs.Prelude.{◌≡◌, ◌∷◌, [], codes, map, string_bytes, IfSome, IsTrue};
+ghost use Rattle.std.specs.Prelude.{◌∷◌, [], map, string_bytes, IfSome};
 ghost use Rattle.command_help.specs.Asking.{AreOfNone};
 
 use command_table::{COMMANDS, CommandName};
