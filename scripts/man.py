@@ -6,9 +6,9 @@ statuses with their lines (`status.rt`), the refusals (`crates/mc_requests`), an
     scripts/man.py [--check [PROGRAM]]
 
 With `--check` nothing is written: the status is 1 where one of the two is not what they say, where the table of commands in README.md
-has other words, and where PROGRAM prints other help. Without PROGRAM it is the one that MILLICENT names, or else the one that the gate
-built, where it is no older than those two crates; where there is none, none is asked. A table that is not found, or a row that can't
-be read, is an error."""
+has other words, and where PROGRAM prints other help, or a range of numbers that `docs/FORMATS.md` has not. Without PROGRAM it is the one
+that MILLICENT names, or else the one that the gate built, where it is no older than those two crates; where there is none, none is
+asked. A table that is not found, or a row that can't be read, is an error."""
 import os
 import re
 import subprocess
@@ -403,6 +403,7 @@ def printed(asked, *given):
 def helped(asked):
     """What the program's help has other than the tables."""
     top = printed(asked, "--help")
+    ranges = {name.split()[0]: form for word, form in forms("| Word | Form |") for name in re.findall(r"`([^`]+)`", word)}
     for command in commands():
         said = printed(asked, command.role, command.name, "--help")
         of_role = printed(asked, command.role, "--help")
@@ -412,6 +413,9 @@ def helped(asked):
         for text, what in wanted:
             if what not in text:
                 yield "%s: the help of `%s %s` does not have %r" % (asked, command.role, command.name, what)
+        for name, numbers in re.findall(r"^  (\S+) .*:\n +(\d+ to \d+)(?:[,;].*)?$", said, re.M):
+            if numbers not in ranges.get(name, ""):
+                yield "%s: %s of `%s %s` is %s, not so in docs/FORMATS.md" % (asked, name, command.role, command.name, numbers)
     for role, line in role_lines().items():
         if "millicent %s: %s\n" % (role, line) not in top:
             yield "%s: its help does not have the role %s" % (asked, role)
