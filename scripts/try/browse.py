@@ -30,9 +30,11 @@ sys.path.insert(0, str(Path(__file__).resolve().parents[1] / "lib"))
 import chromium  # noqa: E402
 import millicent  # noqa: E402
 from gateway import (  # noqa: E402
-    AHEAD, LIMIT, LOOK, NAME, PAGES, PARTS, PICTURES, PRICE, STYLE, Market, Nginx, Proxy, beside_the_disk, one_moment, target)
+    AHEAD, LIMIT, LOOK, NAME, PAGES, PARTS, PICTURES, PIECES, PRICE, STYLE, Market, Nginx, Proxy, beside_the_disk, one_moment, target)
 from serving import LINKS, Link  # noqa: E402
 
+# What nobody sells, by endings that have types of their own.
+ENDINGS = ["/none" + ending for ending in (".pdf", ".jpg", ".css", ".zip", ".html", "")]
 # Loads beside which programs are killed.
 ROUNDS = 30
 
@@ -92,7 +94,7 @@ class Tries:
     # Tries in which the proxy is reached past nginx. In all others it listens at a Unix socket.
     AT_A_PORT = ("head", "another_site", "without_nginx", "connections")
     # Tries in which the proxy was started more than once: it says what was paid since.
-    RESTARTED = ("proxy_killed", "proxy_killed_asking", "kills", "over_budget")
+    RESTARTED = ("causes", "proxy_killed", "proxy_killed_asking", "kills", "over_budget")
 
     @staticmethod
     def prices():
@@ -127,6 +129,25 @@ class Tries:
 
     def said(self):
         return self.tab.text().strip()
+
+    def refused(self, why, cause):
+        """The tab shows this sentence, and in its last line the proxy's own words, which are answered."""
+        said = self.said()
+        assert said.startswith("Not paid for\n") and why in said and said.splitlines()[-1] == cause, "the tab shows %r" % said
+        return cause
+
+    def fetched(self, what):
+        """The status, the type and the contents that nginx answers to a request for a target."""
+        words = ["curl", "-sS", "-w", "\n%{http_code} %{content_type}", self.nginx.url(what)]
+        said = subprocess.run(words, check=True, stdout=subprocess.PIPE).stdout.decode()
+        contents, _, last = said.rpartition("\n")
+        return (*last.split(" ", 1), contents)
+
+    def all_are_pages(self, status, why):
+        """What can't be had is HTML with this sentence, whatever was asked for."""
+        for what in ENDINGS:
+            seen = self.fetched(what)
+            assert seen[:2] == (status, "text/html; charset=utf-8") and why in seen[2], "%s: %r" % (what, seen)
 
     @contextmanager
     def held(self):
@@ -275,10 +296,26 @@ class Tries:
     def query(self):
         """A target with a query is another one, which is not sold: nothing is paid, and the vendor's refusal is shown."""
         self.tab.load(self.nginx.url(target(1) + "?a=b"))
-        said = self.said()
-        assert said == "Not paid for: 68 SiteRefused 30", said
+        said = self.refused("There is no such page.", "68 SiteRefused 30")
         self.opened(1)
         return said, self.whole(1)
+
+    def causes(self):
+        """A page of cause is one that a browser shows, also in place of a picture or a document."""
+        self.all_are_pages("503", "There is no such page.")
+        self.vendor.kill()
+        for number in range(PIECES):
+            self.fetched("/none%d.jpg" % number)
+        self.tab.load(self.nginx.url("/none.jpg"))
+        self.refused("No piece that is free is worth enough for a page here; the best is worth 0.", "62 NoFunds 0")
+        self.keep("nothing-held")
+        self.vendor.start()
+        for number in range(PIECES):
+            assert "There is no such page." in self.fetched("/none%d.jpg" % number)[2]
+        self.proxy.kill()
+        self.all_are_pages("502", "does not run")
+        self.proxy.start()
+        return "%d endings: HTML, with a sentence" % len(ENDINGS), {}
 
     def another_site(self):
         """A picture that a page of another site shows is not paid for, nor one that it links to; past nginx it is."""
@@ -291,7 +328,7 @@ class Tries:
                 one_moment(lambda: self.answers(PICTURES[0]) == ["403"] * (2 * count - 1), "403")
                 self.tab.events.clear()
                 self.tab.begin("Runtime.evaluate", expression="document.querySelector('a').click()")
-                assert self.tab.loaded()[asked].status == 403, "a link from %s was followed" % host
+                assert self.tab.loaded()[asked].status == 403 and self.said().startswith("Not asked for\n"), "a link from %s was followed" % host
             self.tab.load("http://localhost:%d/?http://%s:%d%s" % (server.server_port, *self.proxy.address, PICTURES[1]))
             one_moment(lambda: self.market.accepted()[PICTURES[1]] > self.before[PICTURES[1]] and self.asked() == 0, "the payment")
         finally:
@@ -339,8 +376,8 @@ class Tries:
         """The vendor's program is killed, and started again."""
         self.vendor.kill()
         seen = self.tab.load(self.nginx.url(target(1)))[self.nginx.url(target(1))].status
-        said = self.said()
-        assert (seen, said) == (503, "Not paid for: 81 UpstreamFault"), (seen, said)
+        said = self.refused("The vendor can't be reached now.", "81 UpstreamFault")
+        assert seen == 503, seen
         self.keep("unpaid")
         self.vendor.start()
         self.tab.reload()
@@ -358,21 +395,21 @@ class Tries:
             self.vendor.kill()
             self.tab.loaded()
             said = self.said()
-            assert said.startswith("Not paid for: "), said
+            assert said.startswith("Not paid for\n"), said
             self.vendor.start()
         self.opened(1)
-        return "three times, %s; opened again: shown" % said, self.whole(1)
+        return "three times, %s; opened again: shown" % said.splitlines()[-1], self.whole(1)
 
     def proxy_killed(self):
         """The proxy is killed, and started again."""
         self.proxy.kill()
         self.tab.load(self.nginx.url(target(1)))
         said = self.said()
-        assert said == "millicent wallet proxy does not run.", said
+        assert said.startswith("Not running\n"), said
         self.proxy.start()
         self.tab.reload()
         self.shown(1)
-        return "%r; loaded again: shown" % said, self.whole(1)
+        return "not running; loaded again: shown", self.whole(1)
 
     def proxy_killed_asking(self):
         """The same while it waits for the vendor, who takes the payment."""
@@ -428,8 +465,8 @@ class Tries:
         least = min(worth for worth in self.worths() if worth >= LIMIT)
         self.proxy.start(budget=least - 1)
         seen = self.tab.load(self.nginx.url(target(1)))[self.nginx.url(target(1))].status
-        said = self.said()
-        assert (seen, said) == (402, "Not paid for: 79 OverBudget 0"), (seen, said)
+        said = self.refused("The budget does not allow for another piece: 0 was paid", "79 OverBudget 0")
+        assert seen == 402, seen
         self.keep("over")
         return "402, %s" % said, {}
 
@@ -498,7 +535,7 @@ class Measured:
         self.market.agree()
 
 
-NAMES = ("page by_name reload forced_reload script ten_tabs ten_pages cancelled tab_closed head second_page ahead icon query another_site "
+NAMES = ("page by_name reload forced_reload script ten_tabs ten_pages cancelled tab_closed head second_page ahead icon query causes another_site "
          "another_name without_nginx connections vendor_killed vendor_killed_asked proxy_killed proxy_killed_asking kills over_budget").split()
 
 
