@@ -307,7 +307,7 @@ class Tries:
         for number in range(PIECES):
             self.fetched("/none%d.jpg" % number)
         self.tab.load(self.nginx.url("/none.jpg"))
-        self.refused("No piece that is free is worth enough for a page here; the best is worth 0.", "62 NoFunds 0")
+        self.refused("No piece that is free is worth enough for a page here; the best is worth 0 ", "62 NoFunds 0")
         self.keep("nothing-held")
         self.vendor.start()
         for number in range(PIECES):
@@ -465,7 +465,7 @@ class Tries:
         least = min(worth for worth in self.worths() if worth >= LIMIT)
         self.proxy.start(budget=least - 1)
         seen = self.tab.load(self.nginx.url(target(1)))[self.nginx.url(target(1))].status
-        said = self.refused("The budget does not allow for another piece: 0 was paid", "79 OverBudget 0")
+        said = self.refused("The budget does not allow for another piece: 0 thousandths", "79 OverBudget 0")
         assert seen == 402, seen
         self.keep("over")
         return "402, %s" % said, {}
