@@ -2,6 +2,7 @@ ghost use Rattle.std.specs.Prelude.{◌≡◌, ◌≤◌, length, IfOk};
 ghost use Rattle.mc_site.specs.Counts.{book_counts};
 
 use crate::faults::counted;
+use crate::progress::{Metered, Progress};
 use mc_outside::{Disk, DiskFault};
 use std::fs::{File, Files, OpenFile, OpenOptions};
 use std::io::ErrorKind;
@@ -9,18 +10,25 @@ use std::marker::Model;
 use std::os::fd::{AsRawFd, RawFd};
 use std::os::unix::fs::{FileExt, MetadataExt, OpenOptionsExt};
 use std::path::Path;
-use std::{fs, io};
+use std::{fmt, fs, io};
 
 /// A disk over one open file, or over none: then each call fails. It tells nothing of the bytes: that the
 /// system keeps them is trusted. Contracts see how many of its calls failed.
+///
+/// The file has at least the bytes that it had when it was opened, and those that were written since. Where the system says that
+/// it ends before, that is a fault, and no end: the disk or another process lost what was there.
 #[derive(Drop)]
 pub struct Book<F> {
     file: Option<F>,
     faults: u64,
     /// What the system said of the last fault.
     last_fault: Option<io::Error>,
+    /// Where the file ended before its known end, where the last read found that.
+    early_end: Option<EarlyEnd>,
     /// The file was made for it.
     made: bool,
+    /// How many bytes the file has at least.
+    known: u64,
 }
 
 impl<F> Model for Book<F> {
@@ -40,7 +48,9 @@ impl<F> Book<F> {
             file: None,
             faults: 0,
             last_fault: None,
+            early_end: None,
             made: false,
+            known: 0,
         }
     }
 
@@ -50,6 +60,11 @@ impl<F> Book<F> {
             Some(_) => self.last_fault,
             None => None,
         }
+    }
+
+    /// Where the file ended before its known end, where the last read found that.
+    pub fn early_end(&self) -> Option<EarlyEnd> {
+        self.early_end
     }
 
     /// How many of its calls failed, up to the greatest number.
@@ -81,12 +96,7 @@ impl Book<File> {
         ensures { IfOk result (λ book. book ≡ 0) }
     {
         let (file, made) = file_at(rt, path, create)?;
-        Ok(Book {
-            file: Some(file),
-            faults: 0,
-            last_fault: None,
-            made,
-        })
+        of_file(file, made)
     }
 
     /// As `open`, to read alone: nothing can be written to the book, no file is made, and others may read it, too.
@@ -94,41 +104,60 @@ impl Book<File> {
         ensures { IfOk result (λ book. book ≡ 0) }
     {
         let file = file_to_read(rt, path)?;
-        Ok(Book {
-            file: Some(file),
-            faults: 0,
-            last_fault: None,
-            made: false,
-        })
+        of_file(file, false)
     }
 
-    /// Takes the file away that was made for the book, where it has no bytes.
-    pub fn forget_if_empty<R: Files<File = File>>(&self, rt: &R, path: &str) {
-        if let Ok(0) = self.length()
-            && self.made
-        {
-            let _ = fs::remove_file(rt, path);
+    /// The same book, which shows how far its reading is under this path.
+    pub fn metered<'a>(self, path: &'a str, progress: &'a Progress<'a>) -> Book<Metered<'a>>
+        ensures { result ≡ self }
+    {
+        let file = match self.file {
+            Some(file) => Some(Metered::new(file, path, progress, self.known)),
+            None => None,
+        };
+        Book {
+            file,
+            faults: self.faults,
+            last_fault: self.last_fault,
+            early_end: self.early_end,
+            made: self.made,
+            known: self.known,
         }
     }
+}
 
-    /// What its file is known by.
-    pub(crate) fn mark(&self) -> Option<FileMark> {
-        match self.opened() {
-            Ok(file) => mark_of(file).ok(),
-            Err(_) => None,
-        }
-    }
+/// The book of an open file, with the bytes that it has now.
+fn of_file(file: File, made: bool) -> io::Result<Book<File>>
+    ensures { IfOk result (λ book. book ≡ 0) }
+{
+    let known = file.metadata()?.len();
+    Ok(Book {
+        file: Some(file),
+        faults: 0,
+        last_fault: None,
+        early_end: None,
+        made,
+        known,
+    })
+}
 
-    /// Whether others than the file's owner may read it or write to it.
-    pub fn is_open_to_others(&self) -> bool {
-        match self.mode() {
-            Ok(mode) => mode & 0o077 != 0,
-            Err(_) => false,
-        }
-    }
+/// A book's file that ended before its known end.
+#[derive(Clone, Copy, Debug, PartialEq, Eq)]
+pub struct EarlyEnd {
+    /// How many bytes the book has.
+    pub known: u64,
+    /// How many of them the system had.
+    pub found: u64,
+}
 
-    fn mode(&self) -> io::Result<u32> {
-        Ok(self.opened()?.metadata()?.mode())
+impl fmt::Display for EarlyEnd {
+    fn fmt<W: fmt::Write>(&self, f: &mut fmt::Formatter<W>) -> fmt::Result {
+        let known = self.known;
+        let found = self.found;
+        write!(
+            f,
+            "unexpected end of file: the book has {known} bytes, {found} were read"
+        )
     }
 }
 
@@ -140,7 +169,7 @@ pub(crate) struct FileMark {
     pub(crate) descriptor: RawFd,
 }
 
-fn mark_of(file: &File) -> io::Result<FileMark> {
+fn mark_of<F: OpenFile + AsRawFd>(file: &F) -> io::Result<FileMark> {
     let here = file.metadata()?;
     Ok(FileMark {
         inode: here.ino(),
@@ -245,17 +274,63 @@ fn sync_folder<R: Files<File = File>>(rt: &R, path: &str) -> io::Result<()> {
     File::open(rt, folder)?.sync_all()
 }
 
+impl<F: OpenFile + AsRawFd> Book<F> {
+    /// What its file is known by.
+    pub(crate) fn mark(&self) -> Option<FileMark> {
+        match self.opened() {
+            Ok(file) => mark_of(file).ok(),
+            Err(_) => None,
+        }
+    }
+}
+
 impl<F: OpenFile + FileExt> Book<F> {
+    /// Takes the file away that was made for the book, where it has no bytes.
+    pub fn forget_if_empty<R: Files>(&self, rt: &R, path: &str) {
+        if let Ok(0) = self.length()
+            && self.made
+        {
+            let _ = fs::remove_file(rt, path);
+        }
+    }
+
+    /// Whether others than the file's owner may read it or write to it.
+    pub fn is_open_to_others(&self) -> bool {
+        match self.mode() {
+            Ok(mode) => mode & 0o077 != 0,
+            Err(_) => false,
+        }
+    }
+
+    fn mode(&self) -> io::Result<u32> {
+        Ok(self.opened()?.metadata()?.mode())
+    }
+
     fn length(&self) -> io::Result<u64> {
         Ok(self.opened()?.metadata()?.len())
     }
 
     /// Reads from a place of the file, whatever the count of faults: up to `buf.len()` bytes, and 0 at the file's end or where
-    /// `buf` is empty. An error is not counted.
+    /// `buf` is empty. 0 before the file's known end is an error (`UnexpectedEof`). An error is not counted.
     pub fn read_there(&self, at: u64, buf: &mut [u8]) -> io::Result<usize>
         ensures { IfOk result (λ n. n ≤ length buf.old) }
     {
-        self.opened()?.read_at(buf, at)
+        let n = self.opened()?.read_at(buf, at)?;
+        if n == 0 && at < self.known && !buf.is_empty() {
+            return Err(ErrorKind::UnexpectedEof.into());
+        }
+        Ok(n)
+    }
+
+    /// Where the file ended before its known end, as a read at this place answered, where it answered that.
+    fn early_end_of(&self, answer: &io::Result<usize>, at: u64) -> Option<EarlyEnd> {
+        match answer {
+            Err(e) if e.kind() == ErrorKind::UnexpectedEof => Some(EarlyEnd {
+                known: self.known,
+                found: at,
+            }),
+            _ => None,
+        }
     }
 
     fn write_there(&self, at: u64, bytes: &[u8]) -> io::Result<()> {
@@ -299,16 +374,21 @@ impl<F: OpenFile + FileExt> Disk for Book<F> {
 
     fn read(&mut self, at: u64, buf: &mut [u8]) -> Result<usize, DiskFault> {
         let answer = self.read_there(at, buf);
+        self.early_end = self.early_end_of(&answer, at);
         counted(&mut self.faults, &mut self.last_fault, answer, DiskFault)
     }
 
     fn write_at(&mut self, at: u64, bytes: &[u8]) -> Result<(), DiskFault> {
         let answer = self.write_there(at, bytes);
+        if answer.is_ok() {
+            self.known = self.known.max(at.saturating_add(bytes.len() as u64));
+        }
         counted(&mut self.faults, &mut self.last_fault, answer, DiskFault)
     }
 
     fn cut(&mut self, size: u64) -> Result<(), DiskFault> {
         let answer = self.shorten(size);
+        self.known = self.known.min(size);
         counted(&mut self.faults, &mut self.last_fault, answer, DiskFault)
     }
 

@@ -2,7 +2,8 @@
 
 use crate::book::{Book, FileMark};
 use mc_door::Source;
-use std::fs::File;
+use std::fs::OpenFile;
+use std::os::fd::AsRawFd;
 use std::os::unix::fs::MetadataExt;
 use std::path::PathBuf;
 use std::time::Instant;
@@ -26,7 +27,12 @@ pub struct Watched<'a, S> {
 
 impl<'a, S> Watched<'a, S> {
     /// The links of a source, under the name of this book.
-    pub fn new(source: S, rt: &'a HostRuntime, path: &'a str, book: &Book<File>) -> Watched<'a, S> {
+    pub fn new<F: OpenFile + AsRawFd>(
+        source: S,
+        rt: &'a HostRuntime,
+        path: &'a str,
+        book: &Book<F>,
+    ) -> Watched<'a, S> {
         Watched {
             source,
             rt,

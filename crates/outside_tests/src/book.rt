@@ -1,10 +1,10 @@
 //! A book over a file: what it keeps, who else may open it, and what is told where there is none.
 
 use mc_outside::{Disk, DiskFault};
-use mc_site::{Book, cause_of};
+use mc_site::{Book, EarlyEnd, cause_of};
 use std::alloc::Alloc;
 use std::fs;
-use std::fs::{File, Files};
+use std::fs::{File, Files, OpenOptions};
 use std::io::ErrorKind;
 use std::os::unix::fs::MetadataExt;
 use std::process::Abort;
@@ -13,6 +13,8 @@ use std::test::Fail;
 const PATH: &str = "a.book";
 
 const LOCKED: &str = "locked.book";
+
+const CUT: &str = "cut.book";
 
 /// Why there is no book at this path; nothing where there is one.
 fn refused<R: Files<File = File>>(rt: &R, path: &str, create: bool) -> &'static str {
@@ -141,5 +143,39 @@ fn no_book_where_no_file_can_be(rt: HostRuntime) -> Result<(), Fail> {
     assert_eq!(rt; refused(&rt, ".", true), "no regular file");
     assert_eq!(rt; refused(&rt, "", true), "no such file");
     assert_eq!(rt; refused(&rt, "none/a.book", true), "no such file");
+    Ok(())
+}
+
+/// A book of six bytes of which two are left: to read on there is a fault, and no end.
+fn ends_early(rt: &impl Abort, book: &mut Book<File>) {
+    let mut buf = [0; 4];
+    assert_eq!(rt; book.read(0, &mut buf), Ok(2));
+    assert_eq!(rt; book.early_end(), None);
+    assert_eq!(rt; book.read(2, &mut buf), Err(DiskFault));
+    assert_eq!(rt; book.early_end(), Some(EarlyEnd { known: 6, found: 2 }));
+    assert_eq!(rt; book.faults(), 1);
+    assert_eq!(rt; book.read(2, &mut []), Ok(0));
+    assert_eq!(rt; book.read(6, &mut buf), Ok(0));
+}
+
+#[test]
+fn a_book_cut_by_another_process(rt: HostRuntime) -> Result<(), Fail> {
+    let mut book = Book::open(&rt, CUT, true)?;
+    assert_eq!(rt; book.write_at(0, b"abcdef"), Ok(()));
+    OpenOptions::new().write(true).open(&rt, CUT)?.set_len(2)?;
+    ends_early(&rt, &mut book);
+    drop(book);
+    fs::remove_file(&rt, CUT)?;
+    Ok(())
+}
+
+#[test]
+fn the_words_of_an_early_end(rt: HostRuntime) -> Result<(), Fail> {
+    let end = EarlyEnd { known: 6, found: 2 };
+    let words = format!(in rt.alloc(); "{end}")?;
+    assert_eq!(rt;
+        words.as_str(),
+        "unexpected end of file: the book has 6 bytes, 2 were read"
+    );
     Ok(())
 }
