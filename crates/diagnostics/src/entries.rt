@@ -1,8 +1,10 @@
 //! The entries of a book as the adapter reads them, to tell of them on standard error. Nothing that is done depends
 //! on it.
 
-use mc_records::FRAME;
+use crate::texts::shown;
+use mc_records::{FRAME, Record, read_record};
 use mc_site::Book;
+use scrip_form::Name;
 use scrip_journal::FIRST_GATE;
 use std::alloc::{AllocError, Global};
 use std::fs::OpenFile;
@@ -93,17 +95,61 @@ fn is_journal<F: OpenFile + FileExt>(book: &Book<F>) -> bool {
     book.read_there(0, &mut front).is_ok() && front == HEADER
 }
 
-/// The greatest moment of a book's entries, in seconds since 1970; None where it has none.
-pub fn latest_moment<F: OpenFile + FileExt>(alloc: Global, book: &Book<F>) -> Option<u64> {
+/// What a book has, as its entries are read before it is opened.
+#[derive(Clone, Copy)]
+pub struct Survey {
+    name: Option<Name>,
+    entries: u64,
+    latest: Option<u64>,
+}
+
+impl Survey {
+    /// Whose book it is; nothing where its first entry names nobody.
+    pub fn name(&self) -> &str {
+        match &self.name {
+            Some(name) => shown(name.bytes()),
+            None => "",
+        }
+    }
+
+    /// How many entries it has.
+    pub fn entries(&self) -> u64 {
+        self.entries
+    }
+
+    /// The greatest moment of its entries, in seconds since 1970; None where it has none.
+    pub fn latest(&self) -> Option<u64> {
+        self.latest
+    }
+}
+
+/// Reads a book's entries; None where memory is refused.
+pub fn survey<F: OpenFile + FileExt>(alloc: Global, book: &Book<F>) -> Option<Survey> {
     let mut entries = Entries::of(alloc, book).ok()?;
-    let mut latest = None;
-    for _ in 0..u64::MAX {
+    let mut survey = Survey {
+        name: None,
+        entries: 0,
+        latest: None,
+    };
+    for number in 0..u64::MAX {
         let Some(payload) = entries.next_payload() else {
             break;
         };
-        latest = latest.max(moment_of(payload));
+        if number == 0 {
+            survey.name = name_of(payload);
+        }
+        survey.entries = survey.entries.saturating_add(1);
+        survey.latest = survey.latest.max(moment_of(payload));
     }
-    latest
+    Some(survey)
+}
+
+/// The name in the first entry of a book.
+fn name_of(payload: &[u8]) -> Option<Name> {
+    match read_record(payload) {
+        Ok(Record::Site { name, .. }) => Name::new(name),
+        _ => None,
+    }
 }
 
 /// The moment of a payload, which stands behind its kind.

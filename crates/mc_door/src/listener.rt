@@ -48,6 +48,11 @@ impl<C> Listener<C> {
         }
     }
 
+    /// Whether there is a socket that listens, so that links can be taken.
+    pub fn is_listening(&self) -> bool {
+        self.door.is_some()
+    }
+
     /// Whether the system sends at once what it takes on the standing link (`TCP_NODELAY`), and does not hold a part of a reply
     /// back until the peer has what went before. An error where no link stands, or where it came over a Unix socket, which
     /// holds nothing back and has no such option.

@@ -1,5 +1,6 @@
 //! Where the links of a command come from.
 
+use diagnostics::Survey;
 use mc_door::{Caller, Listener, Source};
 use mc_site::{Streams, Watched};
 use std::io;
@@ -12,16 +13,95 @@ pub(crate) enum Links<'a> {
     /// The one link goes to an address.
     To(Caller<'a, HostRuntime>),
     /// Links come to an address.
-    From(Watched<'a, Listener<&'a HostRuntime>>),
+    From(Announced<'a>),
     /// Standard input and output are the one link.
     Over(Streams<Stdin, Stdout, &'a HostRuntime>),
+}
+
+/// Links that come to an address. The first is asked for once the book was opened, and found good: then standard error says who
+/// listens where.
+#[derive(Drop)]
+pub(crate) struct Announced<'a> {
+    links: Watched<'a, Listener<&'a HostRuntime>>,
+    rt: &'a HostRuntime,
+    // what is said, until it is
+    listening: Option<Listening<'a>>,
+}
+
+/// Who listens where.
+#[derive(Drop)]
+pub(crate) struct Listening<'a> {
+    /// What the book has, where there was memory to read it.
+    pub(crate) survey: Option<Survey>,
+    /// The path of the book.
+    pub(crate) book: &'a str,
+    /// The address, or the path of the socket.
+    pub(crate) place: String,
+}
+
+impl<'a> Announced<'a> {
+    /// These links, and what is said before the first.
+    pub(crate) fn new(
+        links: Watched<'a, Listener<&'a HostRuntime>>,
+        rt: &'a HostRuntime,
+        listening: Option<Listening<'a>>,
+    ) -> Announced<'a> {
+        Announced {
+            links,
+            rt,
+            listening,
+        }
+    }
+}
+
+impl<'a> Listening<'a> {
+    /// Says it.
+    fn tell(&self, rt: &HostRuntime) {
+        let place = self.place.as_str();
+        match &self.survey {
+            Some(survey) => {
+                let (name, entries) = (survey.name(), survey.entries());
+                let noun = if entries == 1 { "entry" } else { "entries" };
+                let _ = eprintln!(rt; "millicent: {name} listens at {place}, {entries} {noun}");
+            }
+            None => {
+                let book = self.book;
+                let _ = eprintln!(rt; "millicent: {book} listens at {place}");
+            }
+        }
+    }
+}
+
+impl<'a> Source for Announced<'a> {
+    fn next(&mut self) -> io::Result<bool> {
+        if let Some(listening) = self.listening.take() {
+            listening.tell(self.rt);
+        }
+        self.links.next()
+    }
+
+    fn recv(&mut self, buf: &mut [u8]) -> io::Result<usize> {
+        self.links.recv(buf)
+    }
+
+    fn send(&mut self, bytes: &[u8]) -> io::Result<usize> {
+        self.links.send(bytes)
+    }
+
+    fn end(&mut self) {
+        self.links.end();
+    }
+
+    fn finish(&mut self) {
+        self.links.finish();
+    }
 }
 
 impl<'a> Source for Links<'a> {
     fn next(&mut self) -> io::Result<bool> {
         match self {
             Links::To(caller) => caller.next(),
-            Links::From(listener) => listener.next(),
+            Links::From(links) => links.next(),
             Links::Over(streams) => streams.next(),
         }
     }
@@ -29,7 +109,7 @@ impl<'a> Source for Links<'a> {
     fn recv(&mut self, buf: &mut [u8]) -> io::Result<usize> {
         match self {
             Links::To(caller) => caller.recv(buf),
-            Links::From(listener) => listener.recv(buf),
+            Links::From(links) => links.recv(buf),
             Links::Over(streams) => streams.recv(buf),
         }
     }
@@ -37,7 +117,7 @@ impl<'a> Source for Links<'a> {
     fn send(&mut self, bytes: &[u8]) -> io::Result<usize> {
         match self {
             Links::To(caller) => caller.send(bytes),
-            Links::From(listener) => listener.send(bytes),
+            Links::From(links) => links.send(bytes),
             Links::Over(streams) => streams.send(bytes),
         }
     }
@@ -45,7 +125,7 @@ impl<'a> Source for Links<'a> {
     fn end(&mut self) {
         match self {
             Links::To(caller) => caller.end(),
-            Links::From(listener) => listener.end(),
+            Links::From(links) => links.end(),
             Links::Over(streams) => streams.end(),
         }
     }
@@ -53,7 +133,7 @@ impl<'a> Source for Links<'a> {
     fn finish(&mut self) {
         match self {
             Links::To(caller) => caller.finish(),
-            Links::From(listener) => listener.finish(),
+            Links::From(links) => links.finish(),
             Links::Over(streams) => streams.finish(),
         }
     }

@@ -8,19 +8,18 @@ mod help;
 mod links;
 
 use crate::help::{asks_for_help, print_help};
-use crate::links::Links;
+use crate::links::{Announced, Links, Listening};
 use diagnostics::{
-    latest_moment, tell_ahead, tell_bad_line, tell_behind, tell_clear, tell_fault, tell_no_bytes,
+    Survey, survey, tell_ahead, tell_bad_line, tell_behind, tell_clear, tell_fault, tell_no_bytes,
     tell_pending_draws, tell_reply, tell_usage, word,
 };
-use mc_base::{List, NoMemory};
-use mc_door::{call, call_each, listen};
-use mc_site::{Book, Passed, Site, Streams, Watched, cause_of, reading};
+use mc_base::NoMemory;
+use mc_door::{Listener, call, call_each, listen};
+use mc_site::{Book, Metered, Passed, Progress, Site, Streams, Watched, Wiping, cause_of, reading};
 use mc_top::{Places, places, run, run_proxy};
 use std::alloc::{AllocError, Global};
 use std::fs::File;
-use std::io::{IsTerminal, Write};
-use std::net::SocketAddr;
+use std::io::{IsTerminal, Stdout, Write};
 use std::process::ExitCode;
 use std::{env, fs, io};
 
@@ -78,167 +77,173 @@ fn words(alloc: Global, rt: &HostRuntime) -> Result<Vec<String>, NoWords> {
     Ok(args.skip(1).collect(alloc)?)
 }
 
+/// A book, of which it is shown how far its reading is where that takes long.
+type Shown<'a> = Book<Metered<'a>>;
+
+/// What is done: what the words say, with what they name.
+#[derive(Clone, Copy)]
+struct Task<'a> {
+    rt: &'a HostRuntime,
+    words: &'a [String],
+    places: &'a Places,
+    progress: &'a Progress<'a>,
+}
+
 /// Opens what the words name, does what they say, and answers the status. A book that is missing is made
 /// only where the command founds it. Where a place to connect to is named the one link goes there; where one to listen at
 /// is named too, links come to that one, and each page that is asked for on them has a link of its own to the other. Where
 /// there is neither, standard input and output are the one link.
 fn start(rt: &HostRuntime, words: &[String], places: &Places) -> u8 {
-    let Ok(others) = open_all(rt, places.books.slice()) else {
+    let progress = Progress::new(rt);
+    let task = Task {
+        rt,
+        words,
+        places,
+        progress: &progress,
+    };
+    let Ok(others) = open_all(&task) else {
         return end(rt, b"no memory\n", 5);
     };
-    let book = match &places.site {
-        Some(path) => book_at(rt, path.slice(), places.founds),
-        None => Book::none(),
-    };
-    tell_before(rt, places, &book, &others);
+    let book = open_book(&task);
+    let survey = tell_before(&task, &book, &others);
     match (&places.connect, &places.listen) {
         (Some(peer), Some(address)) => {
-            pay(
-                rt,
-                words,
-                places,
-                book,
-                text(address.slice()),
-                text(peer.slice()),
-            )
+            let (address, peer) = (text(address.slice()), text(peer.slice()));
+            pay(&task, book, survey, address, peer)
         }
-        (Some(address), None) => ask(rt, words, places, book, others, text(address.slice())),
-        (None, Some(address)) => serve(rt, words, places, book, others, text(address.slice())),
-        (None, None) => work(rt, words, places, book, others),
+        (Some(address), None) => ask(&task, book, others, text(address.slice())),
+        (None, Some(address)) => serve(&task, book, others, survey, text(address.slice())),
+        (None, None) => work(&task, book, others),
     }
 }
 
 /// Runs a command whose one link goes to this address.
-fn ask(
-    rt: &HostRuntime,
-    words: &[String],
-    places: &Places,
-    book: Book<File>,
-    others: Vec<Book<File>>,
-    address: &str,
-) -> u8 {
+fn ask(task: &Task<'_>, book: Shown<'_>, others: Vec<Shown<'_>>, address: &str) -> u8 {
+    let rt = task.rt;
     let source = Links::To(call(rt, address));
-    let mut out = Site::new(book, source, rt.stdout(), rt);
+    let mut out = Site::new(book, source, output(task), rt);
     out.keep(rt.alloc());
-    let ran = run(rt.alloc(), words, out, others);
-    tell_faults(
-        rt,
-        places,
-        ran.status,
-        ran.out.book(),
-        (address, ran.out.link_fault()),
-    );
+    let ran = run(rt.alloc(), task.words, out, others);
+    task.progress.end();
+    let link = (address, ran.out.link_fault());
+    tell_faults(task, ran.status, ran.out.book(), link);
     tell_fault(rt, OUTPUT, ran.out.said_fault());
     if let Links::To(caller) = ran.out.source() {
         tell_fault(rt, address, caller.reason());
         tell_clear(rt, caller.peer());
     }
     if let Some(passed) = ran.out.passed() {
-        tell_reply(rt, word(words, 3), ran.status, passed);
+        tell_reply(rt, word(task.words, 3), ran.status, passed);
     }
     ran.status
 }
 
-/// The links that come to this address. Which port the system chose is told, and which address is no loopback; and, as links are
-/// taken, that the book's name leads to another file. An Err is want of memory.
+/// Where lines are said.
+fn output<'a>(task: &Task<'a>) -> Wiping<'a, Stdout> {
+    Wiping::new(task.rt.stdout(), task.progress)
+}
+
+/// The links that come to this address. Which address is no loopback is told; and, as links are taken, who listens where, and that
+/// the book's name leads to another file. An Err is want of memory.
 fn door<'a>(
-    rt: &'a HostRuntime,
-    places: &'a Places,
-    book: &Book<File>,
+    task: &Task<'a>,
+    book: &Shown<'_>,
+    survey: Option<Survey>,
     address: &str,
 ) -> Result<Links<'a>, AllocError> {
+    let rt = task.rt;
     let source = listen(rt, rt.alloc(), address, rt)?;
-    tell_port(rt, address, source.address());
     tell_clear(rt, source.address());
-    let path = match &places.site {
+    let path = match &task.places.site {
         Some(path) => text(path.slice()),
         None => "",
     };
-    Ok(Links::From(Watched::new(source, rt, path, book)))
+    let listening = if source.is_listening() {
+        Some(Listening {
+            survey,
+            book: path,
+            place: place_of(rt, &source, address)?,
+        })
+    } else {
+        None
+    };
+    let links = Watched::new(source, rt, path, book);
+    Ok(Links::From(Announced::new(links, rt, listening)))
+}
+
+/// Where a listener listens: at the address that the system has for it, with the port that it chose, or at the path of the words.
+fn place_of(
+    rt: &HostRuntime,
+    source: &Listener<&HostRuntime>,
+    address: &str,
+) -> Result<String, AllocError> {
+    match source.address() {
+        Some(at) => format!(in rt.alloc(); "{at}"),
+        None => format!(in rt.alloc(); "{address}"),
+    }
 }
 
 /// Runs a command that serves links which come to this address.
 fn serve(
-    rt: &HostRuntime,
-    words: &[String],
-    places: &Places,
-    book: Book<File>,
-    others: Vec<Book<File>>,
+    task: &Task<'_>,
+    book: Shown<'_>,
+    others: Vec<Shown<'_>>,
+    survey: Option<Survey>,
     address: &str,
 ) -> u8 {
-    let Ok(source) = door(rt, places, &book, address) else {
+    let rt = task.rt;
+    let Ok(source) = door(task, &book, survey, address) else {
         return end(rt, b"no memory\n", 5);
     };
-    let ran = run(
-        rt.alloc(),
-        words,
-        Site::new(book, source, rt.stdout(), rt),
-        others,
-    );
-    let link_fault = ran.out.link_fault();
+    let out = Site::new(book, source, output(task), rt);
+    let ran = run(rt.alloc(), task.words, out, others);
+    task.progress.end();
+    let link = (address, ran.out.link_fault());
     tell_fault(rt, OUTPUT, ran.out.said_fault());
     let book = ran.out.finish();
-    tell_faults(rt, places, ran.status, &book, (address, link_fault));
+    tell_faults(task, ran.status, &book, link);
     ran.status
 }
 
 /// Runs the command of a wallet that pays for what is asked on links which come to this address, over links to a peer.
-fn pay(
-    rt: &HostRuntime,
-    words: &[String],
-    places: &Places,
-    book: Book<File>,
-    address: &str,
-    peer: &str,
-) -> u8 {
-    let Ok(source) = door(rt, places, &book, address) else {
+fn pay(task: &Task<'_>, book: Shown<'_>, survey: Option<Survey>, address: &str, peer: &str) -> u8 {
+    let rt = task.rt;
+    let Ok(source) = door(task, &book, survey, address) else {
         return end(rt, b"no memory\n", 5);
     };
     let none: Book<File> = Book::none();
     let mut up = Site::new(none, call_each(rt, peer, rt), rt.stdout(), rt);
-    let (status, out) = run_proxy(
-        rt.alloc(),
-        words,
-        Site::new(book, source, rt.stdout(), rt),
-        &mut up,
-    );
-    let link_fault = out.link_fault();
+    let out = Site::new(book, source, output(task), rt);
+    let (status, out) = run_proxy(rt.alloc(), task.words, out, &mut up);
+    task.progress.end();
+    let link = (address, out.link_fault());
     tell_fault(rt, OUTPUT, out.said_fault());
     let book = out.finish();
-    tell_faults(rt, places, status, &book, (address, link_fault));
+    tell_faults(task, status, &book, link);
     tell_fault(rt, peer, up.link_fault());
     status
 }
 
 /// Runs a command whose one link is standard input and output, or which has none.
-fn work(
-    rt: &HostRuntime,
-    words: &[String],
-    places: &Places,
-    book: Book<File>,
-    others: Vec<Book<File>>,
-) -> u8 {
+fn work(task: &Task<'_>, book: Shown<'_>, others: Vec<Shown<'_>>) -> u8 {
+    let rt = task.rt;
     let asks = if rt.stdin().is_terminal() {
         Some(rt)
     } else {
         None
     };
     let source = Links::Over(Streams::new(rt.stdin(), rt.stdout(), asks));
-    let mut out = Site::new(book, source, rt.stdout(), rt);
+    let mut out = Site::new(book, source, output(task), rt);
     out.keep(rt.alloc());
-    let ran = run(rt.alloc(), words, out, others);
-    tell_faults(
-        rt,
-        places,
-        ran.status,
-        ran.out.book(),
-        (STREAMS, ran.out.link_fault()),
-    );
+    let ran = run(rt.alloc(), task.words, out, others);
+    task.progress.end();
+    let link = (STREAMS, ran.out.link_fault());
+    tell_faults(task, ran.status, ran.out.book(), link);
     tell_fault(rt, OUTPUT, ran.out.said_fault());
-    tell_other_faults(rt, places, ran.status, &ran.books);
-    tell_work(rt, words, ran.status, ran.out.book(), ran.out.passed());
-    if let Some(path) = &places.site
-        && places.founds
+    tell_other_faults(task, ran.status, &ran.books);
+    tell_work(rt, task.words, ran.status, ran.out.book(), ran.out.passed());
+    if let Some(path) = &task.places.site
+        && task.places.founds
     {
         leave(rt, text(path.slice()), ran.out.book());
     }
@@ -252,28 +257,39 @@ const STREAMS: &str = "standard input or output";
 const OUTPUT: &str = "standard output";
 
 /// Tells of the times of the books against the clock, before anything is done, and through which link of the file
-/// system a book is founded.
-fn tell_before(rt: &HostRuntime, places: &Places, book: &Book<File>, others: &[Book<File>]) {
+/// system a book is founded. What a book has that is there already is answered.
+fn tell_before(task: &Task<'_>, book: &Shown<'_>, others: &[Shown<'_>]) -> Option<Survey> {
+    let rt = task.rt;
     let now = reading(&rt);
-    for (path, other) in places.books.slice().iter().zip(others) {
-        if let Some(latest) = latest_moment(rt.alloc(), other) {
+    for (path, other) in task.places.books.slice().iter().zip(others) {
+        if let Some(survey) = surveyed(task, other)
+            && let Some(latest) = survey.latest()
+        {
             tell_ahead(rt, text(path.slice()), latest, now);
         }
     }
-    let Some(path) = &places.site else {
-        return;
-    };
-    let path = text(path.slice());
-    if places.founds {
+    let path = text(task.places.site.as_ref()?.slice());
+    if task.places.founds {
         tell_symlink(rt, path, book);
-    } else if let Some(latest) = latest_moment(rt.alloc(), book) {
+        return None;
+    }
+    let survey = surveyed(task, book)?;
+    if let Some(latest) = survey.latest() {
         tell_ahead(rt, path, latest, now);
         tell_behind(rt, path, latest, now);
     }
+    Some(survey)
+}
+
+/// What a book has, where there is memory to read it.
+fn surveyed(task: &Task<'_>, book: &Shown<'_>) -> Option<Survey> {
+    let survey = survey(task.rt.alloc(), book);
+    task.progress.wipe();
+    survey
 }
 
 /// Tells which file a path leads to that is a symbolic link, where a book is founded there.
-fn tell_symlink(rt: &HostRuntime, path: &str, book: &Book<File>) {
+fn tell_symlink(rt: &HostRuntime, path: &str, book: &Shown<'_>) {
     if let Ok(named) = fs::symlink_metadata(rt, path)
         && named.file_type().is_symlink()
         && book.is_open()
@@ -285,26 +301,30 @@ fn tell_symlink(rt: &HostRuntime, path: &str, book: &Book<File>) {
 }
 
 /// Tells why the disk failed, or the link, by the status.
-fn tell_faults(
-    rt: &HostRuntime,
-    places: &Places,
-    status: u8,
-    book: &Book<File>,
-    link: (&str, Option<io::Error>),
-) {
-    match (status, &places.site) {
-        (4, Some(path)) => tell_fault(rt, text(path.slice()), book.fault()),
-        (6, _) => tell_fault(rt, link.0, link.1),
+fn tell_faults(task: &Task<'_>, status: u8, book: &Shown<'_>, link: (&str, Option<io::Error>)) {
+    match (status, &task.places.site) {
+        (4, Some(path)) => tell_disk(task.rt, text(path.slice()), book),
+        (6, _) => tell_fault(task.rt, link.0, link.1),
         _ => {}
     }
 }
 
 /// Tells why the disk of a book that is only read failed.
-fn tell_other_faults(rt: &HostRuntime, places: &Places, status: u8, others: &[Book<File>]) {
+fn tell_other_faults(task: &Task<'_>, status: u8, others: &[Shown<'_>]) {
     if status == 4 {
-        for (path, other) in places.books.slice().iter().zip(others) {
-            tell_fault(rt, text(path.slice()), other.fault());
+        for (path, other) in task.places.books.slice().iter().zip(others) {
+            tell_disk(task.rt, text(path.slice()), other);
         }
+    }
+}
+
+/// Tells why the disk of a book failed, where it did.
+fn tell_disk(rt: &HostRuntime, path: &str, book: &Shown<'_>) {
+    match book.early_end() {
+        Some(end) => {
+            let _ = eprintln!(rt; "millicent: {path}: {end}");
+        }
+        None => tell_fault(rt, path, book.fault()),
     }
 }
 
@@ -313,7 +333,7 @@ fn tell_work(
     rt: &HostRuntime,
     words: &[String],
     status: u8,
-    book: &Book<File>,
+    book: &Shown<'_>,
     passed: Option<&Passed>,
 ) {
     let Some(passed) = passed else {
@@ -330,18 +350,9 @@ fn tell_work(
     }
 }
 
-/// Tells on standard error which port the system chose, where the words leave it that.
-fn tell_port(rt: &HostRuntime, address: &str, at: Option<SocketAddr>) {
-    if let Some(at) = at
-        && address.ends_with(":0")
-    {
-        let _ = eprintln!(rt; "listening at {at}");
-    }
-}
-
 /// Takes away the file of a book that was made and not founded, and tells on standard error where others may
 /// read one that has secrets.
-fn leave(rt: &HostRuntime, path: &str, book: &Book<File>) {
+fn leave(rt: &HostRuntime, path: &str, book: &Shown<'_>) {
     book.forget_if_empty(rt, path);
     if book.is_open_to_others() {
         let _ = eprintln!(rt;
@@ -350,20 +361,28 @@ fn leave(rt: &HostRuntime, path: &str, book: &Book<File>) {
     }
 }
 
-/// The books at these paths, to read alone.
-fn open_all(rt: &HostRuntime, paths: &[List<u8>]) -> Result<Vec<Book<File>>, AllocError> {
-    let mut books = Vec::new(rt.alloc());
-    for path in paths {
+/// The books that an audit is of, to read alone.
+fn open_all<'a>(task: &Task<'a>) -> Result<Vec<Shown<'a>>, AllocError> {
+    let mut books = Vec::new(task.rt.alloc());
+    for path in task.places.books.slice() {
         let path = text(path.slice());
-        books.push(or_none(rt, path, Book::open_to_read(rt, path)))?;
+        let book = or_none(task.rt, path, Book::open_to_read(task.rt, path));
+        books.push(book.metered(path, task.progress))?;
     }
     Ok(books)
 }
 
-/// The book at this path, which is made where the command founds it.
-fn book_at(rt: &HostRuntime, path: &[u8], create: bool) -> Book<File> {
-    let path = text(path);
-    or_none(rt, path, Book::open(rt, path, create))
+/// The book that the words name, which is made where the command founds it; of none where they name none.
+fn open_book<'a>(task: &Task<'a>) -> Shown<'a> {
+    let (path, book) = match &task.places.site {
+        Some(path) => {
+            let path = text(path.slice());
+            let opened = Book::open(task.rt, path, task.places.founds);
+            (path, or_none(task.rt, path, opened))
+        }
+        None => ("", Book::none()),
+    };
+    book.metered(path, task.progress)
 }
 
 /// The book that was opened at this path. Where it could not be, standard error says why, and it is a book of none.
