@@ -8,7 +8,7 @@ from house import Ends, bench, chained, founded, kept, opened, received
 from ledger import FULL
 from payloads import GOODS, MINT, SITE, TERMS, UPGRADE, VENDOR, entry_of
 from refusals import refused
-from words import number, place, spelled, terms, text, want
+from words import listen, number, place, spelled, terms, text, want
 
 MOST_CONTENTS = 65_536
 MOST_LINKS = 2**32 - 1
@@ -29,7 +29,7 @@ def parse_init(words, keep=b"600", clear=False):
 
 
 def parse_serve(words):
-    return SimpleNamespace(book=place(words[0]), listen=place(words[1]), links=number(words[2], 1, MOST_LINKS))
+    return SimpleNamespace(book=place(words[0]), listen=listen(words[1]), links=number(words[2], 1, MOST_LINKS))
 
 
 def parse_play(words):

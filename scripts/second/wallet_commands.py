@@ -12,7 +12,7 @@ from replies import Bad, take as take_reply
 from stage import LinkFault
 from vendor import MOST_LINKS
 from wallet import BUY, GET, WALLET, Request, WalletBook, buy_target, check, drawing, name_of, piece_line
-from words import number, place, secret, text
+from words import connect, listen, number, place, secret, text
 
 
 def parse_init(words):
@@ -26,20 +26,20 @@ def parse_book(words):
 def parse_draw(words):
     return SimpleNamespace(
         book=place(words[0]), peer=text(is_name, words[1]), account=text(is_name, words[2]), key=secret(words[3]),
-        order=number(words[4], 1, MOST_VALUE), amount=number(words[5], 1, MOST_VALUE), connect=place(words[6]))
+        order=number(words[4], 1, MOST_VALUE), amount=number(words[5], 1, MOST_VALUE), connect=connect(words[6]))
 
 
 def parse_buy(words):
     vendor, amount = text(is_name, words[2]), number(words[3], 1, MOST_VALUE)
     return SimpleNamespace(
         book=place(words[0]), peer=text(is_name, words[1]), ask=BUY, target=buy_target(vendor, amount),
-        limit=number(words[4], 1, MOST_VALUE), connect=place(words[5]))
+        limit=number(words[4], 1, MOST_VALUE), connect=connect(words[5]))
 
 
 def parse_get(words):
     return SimpleNamespace(
         book=place(words[0]), peer=text(is_name, words[1]), ask=GET, target=text(is_target, words[2]),
-        limit=number(words[3], 1, MOST_VALUE), connect=place(words[4]))
+        limit=number(words[3], 1, MOST_VALUE), connect=connect(words[4]))
 
 
 def parse_lines(words):
@@ -49,18 +49,18 @@ def parse_lines(words):
 def parse_renew(words):
     return SimpleNamespace(
         book=place(words[0]), peer=text(is_name, words[1]), target=text(is_target, words[2]),
-        before=number(words[3], 0, MOMENTS - 1), connect=place(words[4]))
+        before=number(words[3], 0, MOMENTS - 1), connect=connect(words[4]))
 
 
 def parse_proxy(words):
     return SimpleNamespace(
         book=place(words[0]), peer=text(is_name, words[1]), limit=number(words[2], 1, MOST_VALUE),
-        budget=number(words[3], 1, MOST_VALUE), listen=place(words[4]), connect=place(words[5]),
+        budget=number(words[3], 1, MOST_VALUE), listen=listen(words[4]), connect=connect(words[5]),
         links=number(words[6], 1, MOST_LINKS))
 
 
 def parse_retry(words):
-    return SimpleNamespace(book=place(words[0]), peer=text(is_name, words[1]), connect=place(words[2]))
+    return SimpleNamespace(book=place(words[0]), peer=text(is_name, words[1]), connect=connect(words[2]))
 
 
 class Wallet:

@@ -1,5 +1,10 @@
 """The words of the program: the values that they spell, and which of them are options."""
+import re
+
 from forms import Terms, digest_of, whole_number
+
+HOST = re.compile(rb"[A-Za-z0-9._-]{1,253}|\[[0-9A-Fa-f:.%]{1,253}\]")
+MOST_PORT = 65_535
 
 
 class BadWords(Exception):
@@ -20,6 +25,26 @@ def number(word, least, most):
 def place(word):
     want(1 <= len(word) <= 255)
     return word
+
+
+def address(word, least):
+    """A host, or an address of version 6 in square brackets, and behind the last colon a port from the least on."""
+    host, _, port = word.rpartition(b":")
+    want(HOST.fullmatch(host))
+    number(port, least, MOST_PORT)
+    return place(word)
+
+
+def connect(word):
+    return address(word, 1)
+
+
+def listen(word):
+    """An address, of which the port may be 0, or the path of a Unix socket."""
+    if word.startswith(b"/"):
+        want(2 <= len(word) <= 107)
+        return word
+    return address(word, 0)
 
 
 def text(test, word):

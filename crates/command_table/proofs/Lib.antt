@@ -4,6 +4,7 @@ pub mod SecretLemmas
 pub mod BookLemmas
 pub mod OneLemmas
 pub mod SpellLemmas
+pub mod AddressLemmas
 pub mod Samples
 pub mod FitLemmas
 pub mod BeginLemmas

@@ -32,6 +32,8 @@ range_of least most is = let each = both (nat_le least most) (nat_le most MOST_N
 
 one_spelled : (sort : Sort) → is_range (One sort) ≡ true → (a b : Spells sort) → IsOf sort a → IsOf sort b → spelled sort a ≡ spelled sort b → a ≡ b
 one_spelled sorts.Place range a b is_a is_b e = e
+one_spelled sorts.Listen range a b is_a is_b e = e
+one_spelled sorts.Connect range a b is_a is_b e = e
 one_spelled sorts.Name range a b is_a is_b e = e
 one_spelled sorts.Target range a b is_a is_b e = e
 one_spelled sorts.Contents range a b is_a is_b e = e

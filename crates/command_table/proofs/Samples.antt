@@ -1,19 +1,38 @@
 -- Samples of the values of single words, and the rows of words.
-use Rattle.std.proofs.Common.{◌≡◌, List, [], ◌∷◌, Option, Some, None, refl, sym, ◌∙◌, arith, codes, option_map, ◌<◌}
+use Rattle.std.proofs.Common.{◌≡◌, List, [], ◌∷◌, ◌++◌, Option, Some, None, refl, sym, ◌∙◌, arith, codes, option_map, ◌<◌, ◌≤◌, ℕ, ap, inl, inr}
 use Rattle.std.specs.Prelude.{◌<◌, IfSome, slice_get, codes}
+use Rattle.std.proofs.lemmas.Fmt.{decimal_digit}
 use Rattle.clap.specs.Walk.{Row, Text}
 use Rattle.clap.specs.declared.builder.value_parser.Reading.TheVariants.{AsWritten}
 use Rattle.mc_fields.specs.Texts.{is_text}
+use Rattle.mc_fields.proofs.TextTest.{text_decides}
 use Rattle.scrip_form.specs.Texts.{IsName, IsTarget}
 use Rattle.scrip_form.specs.Scrip.{IsCert}
 use Rattle.scrip_form.proofs.TextTests.{name_decides, target_decides}
-use Rattle.command_table.specs.Ranges.{IsPathOrAddress, IsSecretList}
+use Rattle.command_table.specs.Ranges.{IsConnect, IsHostAndPort, IsListen, IsPathOrAddress, IsSecretList, is_host_byte}
+use Rattle.command_table.specs.declared.address.TheConstants.{MOST_HOST}
 use Rattle.command_table.specs.Values.{MaySpell}
 
 -- ---- samples
 
 pub a_place : IsPathOrAddress (codes "a")
 a_place = record { some = omega arith; short = omega arith }
+
+a_port : (least : ℕ) → least ≤ 1 → IsHostAndPort least (codes "a:1")
+unfolding is_text
+a_port least low = record {
+  host = codes "a";
+  port = 1;
+  word' = ap (λ (digits : Text). codes "a:" ++ digits) (sym (decimal_digit 1 (omega arith)));
+  host' = (text_decides is_host_byte is_host_byte 1 MOST_HOST (codes "a")).0 refl;
+  port' = record { least' = low; most' = omega arith };
+}
+
+pub a_connect : IsConnect (codes "a:1")
+a_connect = (record { some = omega arith; short = omega arith }, inl (a_port 1 (omega arith)))
+
+pub a_listen : IsListen (codes "a:1")
+a_listen = (record { some = omega arith; short = omega arith }, inr (inl (a_port 0 (omega arith))))
 
 pub a_name : IsName (codes "a")
 unfolding is_text

@@ -52,6 +52,12 @@ name_of parameters.Budget = codes "BUDGET"
 name_of parameters.Before = codes "BEFORE"
 name_of parameters.Json = codes "json"
 
+-- how the value of an option is called
+abbrev pub value_name_of : Parameter → Text
+value_name_of parameters.Keep = codes "S"
+value_name_of parameters.Kind = codes "K"
+value_name_of _ = codes "VALUE"
+
 -- how it is written, and what its words spell
 abbrev pub shape_of : Parameter → Shape
 shape_of parameters.Book = One sorts.Place
@@ -73,7 +79,7 @@ shape_of parameters.Epoch = One (Number 0 MOST_EPOCH)
 shape_of parameters.Pieces = One (Number 1 MOST_MINTED)
 shape_of parameters.Value = One (Number 1 MOST)
 shape_of parameters.Reference = One sorts.Name
-shape_of parameters.Listen = One sorts.Place
+shape_of parameters.Listen = One sorts.Listen
 shape_of parameters.Links = One (Number 1 MOST_LINKS)
 shape_of parameters.Secret = One sorts.Secret
 shape_of parameters.Contents = One sorts.Contents
@@ -85,7 +91,7 @@ shape_of parameters.Vendor = One sorts.Name
 shape_of parameters.Broker = One sorts.Name
 shape_of parameters.Peer = One sorts.Name
 shape_of parameters.Order = One (Number 1 MOST)
-shape_of parameters.Connect = One sorts.Place
+shape_of parameters.Connect = One sorts.Connect
 shape_of parameters.Limit = One (Number 1 MOST)
 shape_of parameters.Budget = One (Number 1 MOST)
 shape_of parameters.Before = One (Number 0 LAST)

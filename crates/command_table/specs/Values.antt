@@ -13,13 +13,15 @@ use Rattle.command_table.specs.declared.parameter.Shape.TheVariants.{One, Places
 use Rattle.command_table.specs.declared.parameter.Sort.{Sort}
 use Rattle.command_table.specs.declared.parameter.Sort.TheVariants as sorts
 use Rattle.command_table.specs.Parameters.{name_of, rule_of, shape_of}
-use Rattle.command_table.specs.Ranges.{IsPathOrAddress, IsSecretList, IsWithin, joined}
+use Rattle.command_table.specs.Ranges.{IsConnect, IsListen, IsPathOrAddress, IsSecretList, IsWithin, joined}
 
 -- ---- one word
 
 -- the values that words of a sort spell
 abbrev pub Spells : Sort → Type 0
 Spells sorts.Place = List ℕ
+Spells sorts.Listen = List ℕ
+Spells sorts.Connect = List ℕ
 Spells sorts.Name = List ℕ
 Spells sorts.Target = List ℕ
 Spells sorts.Contents = List ℕ
@@ -30,6 +32,8 @@ Spells (sorts.Number least most) = ℕ
 -- their ranges
 abbrev pub IsOf : (sort : Sort) → Spells sort → Type 0
 IsOf sorts.Place word = IsPathOrAddress word
+IsOf sorts.Listen word = IsListen word
+IsOf sorts.Connect word = IsConnect word
 IsOf sorts.Name word = IsName word
 IsOf sorts.Target word = IsTarget word
 IsOf sorts.Contents word = length word ≤ MOST_CONTENTS
@@ -40,6 +44,8 @@ IsOf (sorts.Number least most) n = IsWithin least most n
 -- their words
 abbrev pub spelled : (sort : Sort) → Spells sort → Text
 spelled sorts.Place word = word
+spelled sorts.Listen word = word
+spelled sorts.Connect word = word
 spelled sorts.Name word = word
 spelled sorts.Target word = word
 spelled sorts.Contents word = word

@@ -5,6 +5,7 @@
 //! one, is no matter of this crate.
 #![tactic(auto)]
 
+mod address;
 mod beginning;
 mod books;
 mod contents;
@@ -19,6 +20,7 @@ mod usage;
 mod value;
 mod within;
 
+pub use address::{MOST_HOST, MOST_PORT, MOST_SOCKET};
 pub use beginning::may_begin;
 pub use books::{Books, books_in};
 pub use contents::Contents;
@@ -28,8 +30,8 @@ pub use parameter::{
 };
 pub use place::Place;
 pub use reading::{
-    contents_in, flag_in, name_in, number_in, place_in, secret_in, secrets_in, setting_in,
-    target_in,
+    connect_in, contents_in, flag_in, listen_in, name_in, number_in, place_in, secret_in,
+    secrets_in, setting_in, target_in,
 };
 pub use secrets::{reads_secrets, secrets_of};
 pub use table::{COMMANDS, CommandName, named, read_command};

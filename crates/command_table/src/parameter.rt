@@ -1,7 +1,7 @@
 //! The parameters of commands: how each is called, how it is written, and what its words spell.
 
 ghost use Rattle.std.specs.Prelude.{◌≡◌, true};
-ghost use Rattle.command_table.specs.Parameters.{is_range, is_secret, name_of, rule_of, shape_of};
+ghost use Rattle.command_table.specs.Parameters.{is_range, is_secret, name_of, rule_of, shape_of, value_name_of};
 
 use command_words::{Argument, AsArgument};
 use mc_base::{Amount, Moment};
@@ -39,8 +39,12 @@ pub const MOST_MINTED: u64 = MOST_PIECES as u64;
 /// What a word spells.
 #[derive(Clone, Copy)]
 pub enum Sort {
-    /// A book, or a place to listen at or to connect to, as it is written: 1 to 255 bytes.
+    /// A book, as it is written: 1 to 255 bytes.
     Place,
+    /// A place to listen at, as it is written: an address and a port, or the path of a Unix socket.
+    Listen,
+    /// A place to connect to, as it is written: an address and a port.
+    Connect,
     /// A name.
     Name,
     /// A target.
@@ -187,13 +191,26 @@ impl Parameter {
         }
     }
 
+    /// How the value of an option is called in a usage line.
+    pub fn value_name(self) -> &'static str
+        ensures { result.now ≡ value_name_of self }
+    {
+        match self {
+            Parameter::Keep => "S",
+            Parameter::Kind => "K",
+            _ => "VALUE",
+        }
+    }
+
     /// How it is written, and what its words spell.
     pub fn shape(self) -> Shape
         ensures shape { result ≡ shape_of self }
         ensures range { is_range result ≡ true }
     {
         match self {
-            Parameter::Book | Parameter::Listen | Parameter::Connect => Shape::One(Sort::Place),
+            Parameter::Book => Shape::One(Sort::Place),
+            Parameter::Listen => Shape::One(Sort::Listen),
+            Parameter::Connect => Shape::One(Sort::Connect),
             Parameter::Books => Shape::Places,
             Parameter::Name
             | Parameter::Reference

@@ -10,20 +10,38 @@ use crate::contents::Contents;
 use crate::parameter::Parameter;
 use crate::place::Place;
 use crate::value::{
-    MOST_NUMBER, spelled_contents, spelled_name, spelled_number, spelled_option, spelled_place,
-    spelled_secret, spelled_secrets, spelled_target,
+    MOST_NUMBER, spelled_connect, spelled_contents, spelled_listen, spelled_name, spelled_number,
+    spelled_option, spelled_place, spelled_secret, spelled_secrets, spelled_target,
 };
 use crate::within::Within;
 use command_words::Found;
 use scrip_form::{Name, Secrets, Target};
 
-/// The place that a word names; None exactly where there is none.
+/// The book that a word names; None exactly where there is none.
 pub fn place_in<'a>(found: &Found<'a>, parameter: Parameter) -> Option<Place<'a>>
     ensures some { IfSome result (IsFound found.now (name_of parameter) (One sorts.Place)) }
     ensures none { IsNone result → (value : List ℕ)
         → IsFound found.now (name_of parameter) (One sorts.Place) value → ⊥ }
 {
     Some(Place::of(spelled_place(found, parameter.name())?))
+}
+
+/// The place to listen at that a word names, likewise.
+pub fn listen_in<'a>(found: &Found<'a>, parameter: Parameter) -> Option<Place<'a>>
+    ensures some { IfSome result (IsFound found.now (name_of parameter) (One sorts.Listen)) }
+    ensures none { IsNone result → (value : List ℕ)
+        → IsFound found.now (name_of parameter) (One sorts.Listen) value → ⊥ }
+{
+    Some(Place::of(spelled_listen(found, parameter.name())?))
+}
+
+/// The place to connect to that a word names, likewise.
+pub fn connect_in<'a>(found: &Found<'a>, parameter: Parameter) -> Option<Place<'a>>
+    ensures some { IfSome result (IsFound found.now (name_of parameter) (One sorts.Connect)) }
+    ensures none { IsNone result → (value : List ℕ)
+        → IsFound found.now (name_of parameter) (One sorts.Connect) value → ⊥ }
+{
+    Some(Place::of(spelled_connect(found, parameter.name())?))
 }
 
 /// The name that a word is, likewise.

@@ -1,7 +1,10 @@
 //! What is told of words that are of no command.
 
-ghost use Rattle.std.specs.Prelude.{◌≡◌, Some, map, string_bytes};
-ghost use Rattle.command_table.specs.Usage.{told_of};
+ghost use Rattle.std.specs.Prelude.{◌≡◌, Some, map, option_map, string_bytes};
+ghost use Rattle.std.specs.List.{list_any};
+ghost use Rattle.command_table.specs.Usage as lines;
+ghost use Rattle.command_table.specs.Usage.{is_of, told_of};
+ghost use Rattle.command_table.specs.declared.table.TheConstants as tables;
 
 use crate::parameter::{Parameter, Shape};
 use crate::table::{COMMANDS, CommandName, named};
@@ -10,33 +13,55 @@ use std::marker::Model;
 
 /// One line for standard error that tells which words the program has. Contracts see it as the bytes of the line.
 #[derive(Drop)]
-pub struct Usage {
+pub struct Usage<'a> {
     name: Option<CommandName>,
+    role: Option<&'a str>,
 }
 
-impl Model for Usage {
-    ghost use Rattle.std.specs.Prelude.{ℕ, List};
+impl<'a> Model for Usage<'a> {
+    ghost use Rattle.std.specs.Prelude.{ℕ, List, option_map};
     ghost use Rattle.command_table.specs.Usage.{line_of};
 
     ghost Value = { List ℕ };
 
-    ghost view = { λ u. line_of u.name };
+    ghost view = { λ u. line_of u.name (option_map (λ r. r.now) u.role) };
 }
 
-/// The line for these words: of the command that they begin with, or else of all commands. It takes no memory.
-pub fn usage_of(words: &[String]) -> Usage
-    ensures { result ≡ told_of (map string_bytes words.now) }
+/// The line for these words: of the command that they begin with, or else of the commands whose role is the first
+/// word, or else of all commands. It takes no memory.
+pub fn usage_of<'a>(words: &'a [String]) -> Usage<'a>
+    ensures { result ≡ told_of (map string_bytes words.entry.now) }
 {
-    Usage { name: named(words) }
+    Usage {
+        name: named(words),
+        role: role_of(words),
+    }
 }
 
-impl fmt::Display for Usage {
+/// The first word, where it is a role.
+#[tactic(auto, unfolding(crate::specs::Usage::role_of))]
+fn role_of<'a>(words: &'a [String]) -> Option<&'a str>
+    ensures { option_map (λ r. r.now) result ≡ lines.role_of (map string_bytes words.entry.now) }
+{
+    let (word, _) = words.split_first()?;
+    let role = word.as_str();
+    if is_role(role) { Some(role) } else { None }
+}
+
+/// Whether a command has this role.
+fn is_role(role: &str) -> bool
+    ensures { result ≡ list_any (is_of (Some role.now)) tables.COMMANDS }
+{
+    COMMANDS.iter().any(|name| name.form().role == role)
+}
+
+impl<'a> fmt::Display for Usage<'a> {
     ghost output = { λ u. Some u };
 
     fn fmt<W: fmt::Write>(&self, f: &mut fmt::Formatter<W>) -> fmt::Result {
         match self.name {
             Some(name) => write!(f, "{}", CommandLine { name }),
-            None => write!(f, "{}", AllCommands),
+            None => write!(f, "{}", AllCommands { role: self.role }),
         }
     }
 }
@@ -91,35 +116,51 @@ impl fmt::Display for Parameter {
 
     fn fmt<W: fmt::Write>(&self, f: &mut fmt::Formatter<W>) -> fmt::Result {
         let name = self.name();
+        let value = self.value_name();
         match self.shape() {
             Shape::One(_) => write!(f, " {name}"),
             Shape::Places => write!(f, " {name}.."),
-            Shape::Setting(_) => write!(f, " [--{name} VALUE]"),
+            Shape::Setting(_) => write!(f, " [--{name} {value}]"),
             Shape::Flag => write!(f, " [--{name}]"),
         }
     }
 }
 
-/// The line of all commands.
+/// The line of the commands of a role, or of all.
 #[derive(Drop)]
-struct AllCommands;
+struct AllCommands<'a> {
+    role: Option<&'a str>,
+}
 
-impl fmt::Display for AllCommands {
+impl<'a> fmt::Display for AllCommands<'a> {
+    ghost use Rattle.std.specs.Prelude.{option_map};
     ghost use Rattle.command_table.specs.Usage.{commands};
 
-    ghost output = { λ a. Some commands };
+    ghost output = { λ a. Some (commands (option_map (λ r. r.now) a.role)) };
 
     fn fmt<W: fmt::Write>(&self, f: &mut fmt::Formatter<W>) -> fmt::Result {
         let mut before = None;
         for name in &COMMANDS {
-            let next = NextName {
-                before,
-                name: *name,
-            };
-            write!(f, "{next}")?;
-            before = Some(*name);
+            if has_role(*name, self.role) {
+                let next = NextName {
+                    before,
+                    name: *name,
+                };
+                write!(f, "{next}")?;
+                before = Some(*name);
+            }
         }
         write!(f, " ..")
+    }
+}
+
+/// Whether the command has this role, as each has where none is given.
+fn has_role(name: CommandName, role: Option<&str>) -> bool
+    ensures { result ≡ is_of (option_map (λ r. r.now) role.entry) name }
+{
+    match role {
+        Some(role) => name.form().role == role,
+        None => true,
     }
 }
 

@@ -4,8 +4,9 @@ ghost use Rattle.hex.specs.Hex.{encode_lower};
 ghost use Rattle.scrip_form.specs.Texts.{IsName, IsTarget};
 ghost use Rattle.scrip_form.specs.Scrip.{IsCert};
 ghost use Rattle.command_words.specs.Arguments.{value_of};
-ghost use Rattle.command_table.specs.Ranges.{IsPathOrAddress, IsSecretList, IsWithin, is_path_or_address, joined};
+ghost use Rattle.command_table.specs.Ranges.{IsConnect, IsListen, IsPathOrAddress, IsSecretList, IsWithin, is_path_or_address, joined};
 
+use crate::address::{is_connect, is_listen};
 use crate::secrets::{secret_of, secrets_of};
 use command_words::Found;
 use mc_fields::number_of;
@@ -18,7 +19,7 @@ pub const MOST_NUMBER: u64 = 1 << 60;
 /// The most bytes of a word that names a book, or a place to listen at or to connect to.
 const MOST_PLACE: usize = 255;
 
-/// The word of a book, or of a place to listen at or to connect to; None exactly where there is none.
+/// The word of a book; None exactly where there is none.
 pub(crate) fn spelled_place<'a>(found: &Found<'a>, name: &str) -> Option<&'a [u8]>
     ensures some { IfSome result
         (λ p. IsPathOrAddress p.now × (value_of found.now name.now ≡ Some p.now)) }
@@ -32,8 +33,36 @@ pub(crate) fn spelled_place<'a>(found: &Found<'a>, name: &str) -> Option<&'a [u8
     Some(word.as_bytes())
 }
 
-/// Whether the word may name a book or a place.
-fn is_place(word: &str) -> bool
+/// The word of a place to listen at, likewise.
+pub(crate) fn spelled_listen<'a>(found: &Found<'a>, name: &str) -> Option<&'a [u8]>
+    ensures some { IfSome result
+        (λ p. IsListen p.now × (value_of found.now name.now ≡ Some p.now)) }
+    ensures none { IsNone result → (p : List ℕ) → IsListen p
+        → value_of found.now name.now ≡ Some p → ⊥ }
+{
+    let word = found.value_of(name)?;
+    if !is_listen(word) {
+        return None;
+    }
+    Some(word.as_bytes())
+}
+
+/// The word of a place to connect to, likewise.
+pub(crate) fn spelled_connect<'a>(found: &Found<'a>, name: &str) -> Option<&'a [u8]>
+    ensures some { IfSome result
+        (λ p. IsConnect p.now × (value_of found.now name.now ≡ Some p.now)) }
+    ensures none { IsNone result → (p : List ℕ) → IsConnect p
+        → value_of found.now name.now ≡ Some p → ⊥ }
+{
+    let word = found.value_of(name)?;
+    if !is_connect(word) {
+        return None;
+    }
+    Some(word.as_bytes())
+}
+
+/// Whether the word has as many bytes as one that names a book or a place.
+pub(crate) fn is_place(word: &str) -> bool
     ensures { result ≡ is_path_or_address word.now }
 {
     0 < word.len() && word.len() <= MOST_PLACE

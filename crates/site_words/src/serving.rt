@@ -6,7 +6,9 @@ ghost use Rattle.command_table.specs.Table.{Gives};
 ghost use Rattle.command_table.specs.declared.table.CommandName.TheVariants.{VendorPlay, VendorServe};
 ghost use Rattle.site_words.specs.Words.{playing_values, server_values};
 
-use command_table::{Heads, Links, MOST_HEADS, MOST_LINKS, Parameter, Place, number_in, place_in};
+use command_table::{
+    Heads, Links, MOST_HEADS, MOST_LINKS, Parameter, Place, listen_in, number_in, place_in,
+};
 use command_words::Found;
 
 /// What a site is served by.
@@ -27,7 +29,7 @@ impl<'a> Server<'a> {
         ensures { Gives VendorServe server_values found.now result }
     {
         let book = place_in(found, Parameter::Book)?;
-        let listen = place_in(found, Parameter::Listen)?;
+        let listen = listen_in(found, Parameter::Listen)?;
         let links = number_in(found, Parameter::Links)?;
         Some(Server {
             book,

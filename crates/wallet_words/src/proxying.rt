@@ -8,8 +8,8 @@ ghost use Rattle.wallet_words.specs.Words.{proxying_values};
 ghost use Rattle.wallet_words.specs.Proxying.{AreNoProxyWords, AreProxyWords};
 
 use command_table::{
-    CommandName, Links, MOST_LINKS, Parameter, Place, Sum, name_in, number_in, place_in,
-    read_command,
+    CommandName, Links, MOST_LINKS, Parameter, Place, Sum, connect_in, listen_in, name_in,
+    number_in, place_in, read_command,
 };
 use command_words::Found;
 use mc_base::Amount;
@@ -45,8 +45,8 @@ impl<'a> Proxying<'a> {
         let vendor = name_in(found, Parameter::Vendor)?;
         let limit = number_in(found, Parameter::Limit)?;
         let budget = number_in(found, Parameter::Budget)?;
-        let listen = place_in(found, Parameter::Listen)?;
-        let connect = place_in(found, Parameter::Connect)?;
+        let listen = listen_in(found, Parameter::Listen)?;
+        let connect = connect_in(found, Parameter::Connect)?;
         let links = number_in(found, Parameter::Links)?;
         Some(Proxying {
             book,

@@ -8,7 +8,7 @@ ghost use Rattle.wallet_words.specs.Words.{buying_values, drawing_values, gettin
 ghost use Rattle.wallet_words.specs.Commands.{connect_of, wallet_book_of};
 
 use command_table::{
-    Before, Parameter, Place, Sum, name_in, number_in, place_in, secret_in, target_in,
+    Before, Parameter, Place, Sum, connect_in, name_in, number_in, place_in, secret_in, target_in,
 };
 use command_words::Found;
 use mc_base::{Amount, Moment};
@@ -122,7 +122,7 @@ impl<'a> Drawing<'a> {
         let key = secret_in(found, Parameter::Key)?;
         let order = number_in(found, Parameter::Order)?;
         let amount = number_in(found, Parameter::Amount)?;
-        let connect = place_in(found, Parameter::Connect)?;
+        let connect = connect_in(found, Parameter::Connect)?;
         Some(Drawing {
             book,
             broker,
@@ -200,7 +200,7 @@ impl<'a> Buying<'a> {
         let vendor = name_in(found, Parameter::Vendor)?;
         let amount = number_in(found, Parameter::Amount)?;
         let limit = number_in(found, Parameter::Limit)?;
-        let connect = place_in(found, Parameter::Connect)?;
+        let connect = connect_in(found, Parameter::Connect)?;
         Some(Buying {
             book,
             broker,
@@ -267,7 +267,7 @@ impl<'a> Getting<'a> {
         let vendor = name_in(found, Parameter::Vendor)?;
         let target = target_in(found, Parameter::Target)?;
         let limit = number_in(found, Parameter::Limit)?;
-        let connect = place_in(found, Parameter::Connect)?;
+        let connect = connect_in(found, Parameter::Connect)?;
         Some(Getting {
             book,
             vendor,
@@ -319,7 +319,7 @@ impl<'a> Retrying<'a> {
     {
         let book = place_in(found, Parameter::Book)?;
         let peer = name_in(found, Parameter::Peer)?;
-        let connect = place_in(found, Parameter::Connect)?;
+        let connect = connect_in(found, Parameter::Connect)?;
         Some(Retrying {
             book,
             peer,
@@ -388,7 +388,7 @@ impl<'a> Renewing<'a> {
         let vendor = name_in(found, Parameter::Vendor)?;
         let target = target_in(found, Parameter::Target)?;
         let before = number_in(found, Parameter::Before)?;
-        let connect = place_in(found, Parameter::Connect)?;
+        let connect = connect_in(found, Parameter::Connect)?;
         Some(Renewing {
             book,
             vendor,

@@ -12,8 +12,8 @@ CHOICES = (0, 1, 7)
 # So often is the disk read more where a Switch stands: what is before it, for its chain, and then what is behind its gate anew.
 READ_AGAIN = 2
 # The roles whose command switches a chain on, each with a book, and what comes behind the Switch.
-OPERATORS = [("vendor", "$shop", ["link $pays", "run vendor serve b l 1"]),
-             ("broker", "$f_rich", ["link $f_draw", "run broker serve b l 1"]),
+OPERATORS = [("vendor", "$shop", ["link $pays", "run vendor serve b l:80 1"]),
+             ("broker", "$f_rich", ["link $f_draw", "run broker serve b l:80 1"]),
              ("wallet", "$wallet_book", ["link $line_pieces", "run wallet take b"])]
 
 
@@ -81,15 +81,15 @@ def operators(out):
 
 def commands(out):
     """Commands over switched books, while calls of the disk fail."""
-    again = ("link $pays", "link $pays60", "clock 1000000", "run vendor serve b l 2")
+    again = ("link $pays", "link $pays60", "clock 1000000", "run vendor serve b l:80 2")
     orders = [
         ("goods", "licensed", ('link "Good " "morning.\\n"',), "run vendor goods b /news/1 25 --kind 1", 6, again),
         ("price", "shop", (), "run vendor price b /news/1 24", 6, again),
         ("licence", "shop", (), "run vendor licence b 2 4096 8192 $fives $threes", 6, again),
         ("mint", "shop", (), "run vendor mint b 2 50 m1", 6, again),
-        ("serve, a paid request", "shop", ("link $pays",), "run vendor serve b l 1", 6, again),
-        ("serve, a repeat", "paid_shop", ("link $pays",), "run vendor serve b l 1", 2, again),
-        ("serve, two requests on a link", "shop", ("link $pays+$pays60",), "run vendor serve b l 1", 10, again)]
+        ("serve, a paid request", "shop", ("link $pays",), "run vendor serve b l:80 1", 6, again),
+        ("serve, a repeat", "paid_shop", ("link $pays",), "run vendor serve b l:80 1", 2, again),
+        ("serve, two requests on a link", "shop", ("link $pays+$pays60",), "run vendor serve b l:80 1", 10, again)]
     for name, book, links, words, disk, _ in desks.ORDERS:
         if book:
             orders.append(("broker " + name, book[1:], links, words, disk, desks.AGAIN))
@@ -113,8 +113,8 @@ def chains():
     out = Cases("Books with a chain, cut and changed at each byte, switched while calls fail, and given to every command.")
     earlier_names()
     grown(out, "h_wallet", ["book " + switched(out, "wallet_book"), "clock 1000000", "link $line_pieces", "run wallet take b"])
-    grown(out, "h_vendor", ["book $shop", "switch 1000000", "clock 1000000", "link $pays", "run vendor serve b l 1"])
-    grown(out, "h_broker", ["book $f_rich", "switched 1000000", "clock 1000000", "link $f_draw", "run broker serve b l 1"])
+    grown(out, "h_vendor", ["book $shop", "switch 1000000", "clock 1000000", "link $pays", "run vendor serve b l:80 1"])
+    grown(out, "h_broker", ["book $f_rich", "switched 1000000", "clock 1000000", "link $f_draw", "run broker serve b l:80 1"])
     each_byte(out)
     switching(out)
     operators(out)

@@ -76,14 +76,14 @@ ORDERS = [
     ("balance", "$f_rich", (), "run broker balance b ann", 2, 1),
     ("licence", "$f_rich", ("link $f_licence[:20] $f_licence[20:]",), "run broker licence b", 6, 5),
     ("stock", "$f_rich", ("link $f_line $f_line2",), "run broker stock b shop.example", 6, 5),
-    ("serve, a draw", "$f_rich", ("link $f_draw",), "run broker serve b l 1", 6, 5),
-    ("serve, a sale out of stock", "$f_market", ("link $f_sale",), "run broker serve b l 1", 6, 5),
-    ("serve, a sale under a licence", "$f_market", ("link $f_licensed",), "run broker serve b l 1", 6, 5),
-    ("serve, a credit", "$f_market", ("link $f_credit",), "run broker serve b l 1", 6, 5),
-    ("serve, a refused draw", "$f_market", ("link $f_wrong",), "run broker serve b l 1", 2, 5),
-    ("serve, three requests on a link", "$f_market", ("link $f_draw+$f_sale+$f_credit",), "run broker serve b l 1", 14, 7),
+    ("serve, a draw", "$f_rich", ("link $f_draw",), "run broker serve b l:80 1", 6, 5),
+    ("serve, a sale out of stock", "$f_market", ("link $f_sale",), "run broker serve b l:80 1", 6, 5),
+    ("serve, a sale under a licence", "$f_market", ("link $f_licensed",), "run broker serve b l:80 1", 6, 5),
+    ("serve, a credit", "$f_market", ("link $f_credit",), "run broker serve b l:80 1", 6, 5),
+    ("serve, a refused draw", "$f_market", ("link $f_wrong",), "run broker serve b l:80 1", 2, 5),
+    ("serve, three requests on a link", "$f_market", ("link $f_draw+$f_sale+$f_credit",), "run broker serve b l:80 1", 14, 7),
 ]
-AGAIN = ("link $f_draw", "link $f_next+$f_sale+$f_licensed", "link $f_credit", "run broker serve b l 3", "run broker balance b ann")
+AGAIN = ("link $f_draw", "link $f_next+$f_sale+$f_licensed", "link $f_credit", "run broker serve b l:80 3", "run broker balance b ann")
 
 
 def faults():
@@ -165,7 +165,7 @@ class Desk:
             asked = [self.request() for _ in range(self.numbers.between(1, 4))]
             self.heads += asked
             links.append("+".join(asked))
-        stage = self.run("broker serve b l %d" % len(links), *links)
+        stage = self.run("broker serve b l:80 %d" % len(links), *links)
         for reply in b"".join(stage.sent).split(b"HTTP/1.1 200 OK\r\n")[1:]:
             self.take(reply)
 
@@ -230,7 +230,7 @@ def desks():
     for count in (255, 256, 257):
         lines = [piece_line(STOCKED, "shop.example", 1 + serial % 3, STOCKED.identity(NOW, serial)) for serial in range(count)]
         out.case("stock of %d lines" % count, "book $f_rich", "clock 1000000", "link " + " ".join(lines),
-                 "run broker stock b shop.example", "link " + head("/buy/shop.example/2", own_piece(3, 90)), "run broker serve b l 1")
+                 "run broker stock b shop.example", "link " + head("/buy/shop.example/2", own_piece(3, 90)), "run broker serve b l:80 1")
         out.case("stock of %d lines, and one that is none" % count, "book $f_rich", "clock 1000000",
                  "link " + "+".join(lines) + '+"x"', "run broker stock b shop.example")
     out.write("desks")

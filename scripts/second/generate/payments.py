@@ -18,14 +18,14 @@ def names(out):
     line = '$p1+" 0a3add5b23056f2ef910dbd51d6a69ff\\n"'
     runner = Runner(io.BytesIO(), NAMES)
     lines = ["book $wallet_book", "clock 1000000", "link " + line, "run wallet take b", "save g_holds book"]
-    lines += serving("g_holds", "wallet get b news.example /news/1 25 c", "shop", "vendor", "g_asks", "g_reply")
-    lines += ["clock 1000600", "link $g_asked", "run vendor serve b l 1", "save g_spent sent 0", "clock 1000000"]
+    lines += serving("g_holds", "wallet get b news.example /news/1 25 c:80", "shop", "vendor", "g_asks", "g_reply")
+    lines += ["clock 1000600", "link $g_asked", "run vendor serve b l:80 1", "save g_spent sent 0", "clock 1000000"]
     lines += ['book ""', "run broker init b bank 4096 8192 $ones $twos 1", "run broker account b ann " + KEY,
               "run broker deposit b ann 1000 r1", 'link "licence news.example 1 4096 8192 "+$threes+" "+$fours+"\\n"',
               "run broker licence b", "save g_bank book"]
-    lines += serving("wallet_book", "wallet draw b bank ann %s 1 300 c" % KEY, "g_bank", "broker", "g_drawing", "g_drawn", "g_bank")
-    lines += ["book $wallet_book", "link $g_drawn", "run wallet draw b bank ann %s 1 300 c" % KEY, "save g_rich book"]
-    lines += serving("g_rich", "wallet buy b bank news.example 100 101 c", "g_bank", "broker", "g_buying", "g_bought")
+    lines += serving("wallet_book", "wallet draw b bank ann %s 1 300 c:80" % KEY, "g_bank", "broker", "g_drawing", "g_drawn", "g_bank")
+    lines += ["book $wallet_book", "link $g_drawn", "run wallet draw b bank ann %s 1 300 c:80" % KEY, "save g_rich book"]
+    lines += serving("g_rich", "wallet buy b bank news.example 100 101 c:80", "g_bank", "broker", "g_buying", "g_bought")
     out.case("the books and the replies that follow", *lines)
     for text in lines:
         runner.line(text)
@@ -34,12 +34,12 @@ def names(out):
 def serving(wallet, words, site, role, asking, reply, served="g_served"):
     """A wallet asks, and a site answers: what the wallet's book then is, and the reply, get names."""
     return ["book $" + wallet, "clock 1000000", "link", "run " + words, "save %s book" % asking, "save g_asked sent 0",
-            "book $" + site, "link $g_asked", "run %s serve b l 1" % role, "save %s sent 0" % reply, "save %s book" % served]
+            "book $" + site, "link $g_asked", "run %s serve b l:80 1" % role, "save %s sent 0" % reply, "save %s book" % served]
 
 
-GET, BUY, DRAW = ("run wallet get b news.example /news/1 25 c", "run wallet buy b bank news.example 100 101 c",
-                  "run wallet draw b bank ann %s 1 300 c" % KEY)
-NEWS, BANK = "run wallet retry b news.example c", "run wallet retry b bank c"
+GET, BUY, DRAW = ("run wallet get b news.example /news/1 25 c:80", "run wallet buy b bank news.example 100 101 c:80",
+                  "run wallet draw b bank ann %s 1 300 c:80" % KEY)
+NEWS, BANK = "run wallet retry b news.example c:80", "run wallet retry b bank c:80"
 # Each command with its book, what its link brings, its words, how many calls of the disk and of links it makes, and what is given
 # then: a link and words.
 ORDERS = [
@@ -94,7 +94,7 @@ def payments():
         lines = "+".join('"MS1|news.example|%d|%016x|%016x|1011712||"+$zeros+" "+$fives+"\\n"' % (1 + n % 3, n, n) for n in range(count))
         out.let("many_lines", lines)
         out.case("%d lines" % count, "book $wallet_book", "clock 1000000", "link $many_lines", "run wallet take b", "run wallet list b",
-                 "run wallet get b news.example / 2 c")
+                 "run wallet get b news.example / 2 c:80")
         out.case("%d lines, and one that is none" % count, "book $wallet_book", "clock 1000000", 'link $many_lines+"x"', "run wallet take b")
     out.case("lines up to the most that is read", "book $wallet_book", "clock 1000000", 'link "x"*131072', "run wallet take b",
              'link "x"*131073', "run wallet take b", 'link $line_pieces+"x"*131000', "run wallet take b",
@@ -167,23 +167,23 @@ class Town:
         peer = numbers.of([*held, *held, "bank", "news.example", "press.example"]) if numbers.below(4) else ""
         if not peer or not held:
             self.order += numbers.of((1, 1, 1, 1, 1, 0))
-            return "wallet draw b bank ann %s %d %d c" % (KEY, max(1, self.order), numbers.of((60, 300, 300, 1000)))
+            return "wallet draw b bank ann %s %d %d c:80" % (KEY, max(1, self.order), numbers.of((60, 300, 300, 1000)))
         if peer == "bank":
             amount = numbers.of((50, 50, 50, 30, 7))
-            return "wallet buy b bank %s.example %d %d c" % (numbers.of(("news", "press")), amount, amount + numbers.of((0, 7, 7)))
-        return "wallet get b %s /%d %d c" % (peer, numbers.of((1, 1, 1, 1, 2)), numbers.of((1, 25, 25, 50)))
+            return "wallet buy b bank %s.example %d %d c:80" % (numbers.of(("news", "press")), amount, amount + numbers.of((0, 7, 7)))
+        return "wallet get b %s /%d %d c:80" % (peer, numbers.of((1, 1, 1, 1, 2)), numbers.of((1, 25, 25, 50)))
 
     def host(self, asked):
         return self.runner.names[asked].split(b"Host: ")[1].split(b"\r\n")[0].decode()
 
     def retry(self, peer=None):
         peers = [request.peer.decode() for _, request in self.wallet().kept()]
-        return "wallet retry b %s c" % (peer or self.numbers.of([*peers, *peers, "bank", "news.example"]))
+        return "wallet retry b %s c:80" % (peer or self.numbers.of([*peers, *peers, "bank", "news.example"]))
 
     def answer(self, asked):
         """Delivers a request to the site that it is for; the name of the reply."""
         site = self.host(asked).split(".")[0]
-        self.run(site, ("broker" if site == "bank" else "vendor") + " serve b l 1", "$" + asked)
+        self.run(site, ("broker" if site == "bank" else "vendor") + " serve b l:80 1", "$" + asked)
         return self.replies[-1]
 
     def old(self):

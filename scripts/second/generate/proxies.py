@@ -13,7 +13,7 @@ from stage import LinkFault, Stage
 from wallet import WALLET, Request
 
 CHOICES = (0, 1, 7)
-PROXY = "proxy wallet proxy b news.example %d %d l c %d"
+PROXY = "proxy wallet proxy b news.example %d %d l:80 c:80 %d"
 ONCE = PROXY % (25, 100, 1)
 
 

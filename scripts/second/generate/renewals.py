@@ -63,12 +63,12 @@ def faults(out):
     out.group("Each call of the disk fails in turn while a wallet renews a piece, and then the disk crashes and it is tried again;\n"
               "and each call of the link.")
     names(out)
-    words = "run wallet renew w news.example /renew 1011712 c"
+    words = "run wallet renew w news.example /renew 1011712 c:80"
     begin, told_lines = ["clock 1003520", "book $rn_book"], "run wallet lines w news.example"
     out.case("a renewal, its request and its reply", "clock 1003520", "book $wallet_book", "link $rn_line", "run wallet take w",
-             "save rn_book book", "link", words, "save rn_asked sent 0", "book $rn_site", "link $rn_asked", "run vendor serve b l 1",
+             "save rn_book book", "link", words, "save rn_asked sent 0", "book $rn_site", "link $rn_asked", "run vendor serve b l:80 1",
              "save rn_reply sent 0", "book $rn_book", "link $rn_reply", words)
-    again = ["link $rn_reply", "run wallet retry w news.example c", "link $rn_reply", words, "run wallet list w", "wallet"]
+    again = ["link $rn_reply", "run wallet retry w news.example c:80", "link $rn_reply", words, "run wallet list w", "wallet"]
     for call in range(11):
         for choice in CHOICES:
             out.case("renew: disk call %d, crash %d" % (call, choice), *begin, "link $rn_reply", "fail disk %d" % call, words,
@@ -111,15 +111,15 @@ def renewals(out):
            "book $rn_site", "save rn_vendor book")
         for _ in range(numbers.between(2, 6)):
             time += numbers.of((0, 0, 1, 4096, 8192))
-            words = "run wallet renew w news.example /renew %d c" % numbers.of((time, time + 4096, time + 8192, 2**35 - 1))
+            words = "run wallet renew w news.example /renew %d c:80" % numbers.of((time, time + 4096, time + 8192, 2**35 - 1))
             if not do("clock %d" % time, "book $rn_book", "link", words).startswith('run 7\nsaid "refused 64'):
                 continue
-            do("save rn_kept book", "save rn_asked sent 0", "book $rn_vendor", "link $rn_asked", "run vendor serve b l 1",
+            do("save rn_kept book", "save rn_asked sent 0", "book $rn_vendor", "link $rn_asked", "run vendor serve b l:80 1",
                "save rn_vendor book", "save rn_reply sent 0")
             if numbers.below(3):
                 do("book $rn_book", "link $rn_reply", words, "save rn_book book")
             else:
-                do("book $rn_kept", words, "link $rn_reply", "run wallet retry w news.example c", "save rn_book book")
+                do("book $rn_kept", words, "link $rn_reply", "run wallet retry w news.example c:80", "save rn_book book")
         do("book $rn_book", "run wallet list w", "run wallet lines w news.example", "wallet", "book $rn_vendor", "lawful")
         out.case("renewals %d" % round, *lines)
 

@@ -197,7 +197,7 @@ def series(out):
     states = "run vendor statement b 1 %d"
     out.case("scrip of the second version is stated as all is", "book $sg_vendor", "clock %d" % NOW,
              "run vendor upgrade b 1 %d" % (EPOCH + 1), "clock %d" % ((EPOCH + 1) * PERIOD), 'link $get1+$scrip+"%s"+$ee' % later,
-             "run vendor serve b l 1", "clock %d" % (END + PERIOD), states % (EPOCH + 1), states % EPOCH, "lawful", "replay")
+             "run vendor serve b l:80 1", "clock %d" % (END + PERIOD), states % (EPOCH + 1), states % EPOCH, "lawful", "replay")
     out.case("books with a chain", "clock %d" % END, "book $sg_vendor", "run vendor chain b", states % EPOCH, states % EPOCH,
              "run vendor chain b", "replay", "book $sg_one", "run broker chain b", "link $sg_line", "run broker settle b",
              "link $sg_line", "run broker settle b", "run broker chain b", "replay")

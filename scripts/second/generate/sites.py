@@ -15,12 +15,12 @@ def faults():
         ("price", "$shop", (), "run vendor price b /news/1 24", 6, 1),
         ("licence", "$shop", (), "run vendor licence b 2 4096 8192 $fives $threes", 6, 1),
         ("mint", "$shop", (), "run vendor mint b 2 50 m1", 6, 1),
-        ("serve, a paid request", "$shop", ("link $pays",), "run vendor serve b l 1", 6, 5),
-        ("serve, a repeat", "$paid_shop", ("link $pays",), "run vendor serve b l 1", 2, 5),
-        ("serve, a refused request", "$paid_shop", ("link $pays2",), "run vendor serve b l 1", 2, 5),
-        ("serve, two requests on a link", "$shop", ("link $pays+$pays60",), "run vendor serve b l 1", 10, 6),
+        ("serve, a paid request", "$shop", ("link $pays",), "run vendor serve b l:80 1", 6, 5),
+        ("serve, a repeat", "$paid_shop", ("link $pays",), "run vendor serve b l:80 1", 2, 5),
+        ("serve, a refused request", "$paid_shop", ("link $pays2",), "run vendor serve b l:80 1", 2, 5),
+        ("serve, two requests on a link", "$shop", ("link $pays+$pays60",), "run vendor serve b l:80 1", 10, 6),
     ]
-    again = ("link $pays", "link $pays60", "run vendor serve b l 2")
+    again = ("link $pays", "link $pays60", "run vendor serve b l:80 2")
     for order in orders:
         each_call_fails(out, "", order, lambda _: again)
     several_calls_fail(out, "", orders, lambda _: again, 60, Numbers(1))
@@ -101,12 +101,12 @@ def lengths(out):
         target = '"/"*%d' % size
         out.case("a target of %d bytes" % size, "book $licensed", 'link "hi"', "clock 1000000",
                  "run vendor goods b %s 25" % target,
-                 'link "GET "+%s+" HTTP/1.1\\r\\nHost: n\\r\\n"+$scrip+$p1+$ee' % target, "run vendor serve b l 1",
+                 'link "GET "+%s+" HTTP/1.1\\r\\nHost: n\\r\\n"+$scrip+$p1+$ee' % target, "run vendor serve b l:80 1",
                  "run vendor price b %s 26" % target, "answer 1000000 %s $second -" % (target if size < 513 else '"/"'))
     for size in (1, 2, 62, 63, 64):
         out.case("a name of %d bytes" % size, "clock 1000000",
                  'run vendor init b "n"*%d 4096 8192 $ones $twos --clear' % size,
-                 "run vendor mint b 1 50 m1", "link $unpaid", "run vendor serve b l 1")
+                 "run vendor mint b 1 50 m1", "link $unpaid", "run vendor serve b l:80 1")
         out.case("a reference of %d bytes" % size, "book $shop", "clock 1000000", *(
             'run vendor mint b %d 50 "r"*%d' % (count, size) for count in (2, 2, 3)))
 
@@ -114,7 +114,7 @@ def lengths(out):
 def numbers_at_bounds(out):
     for value in (0, 1, 2**32, 2**40 - 1, 2**40, 2**40 + 1):
         out.case("a value of %d" % value, "book $shop", "clock 1000000", "run vendor mint b 1 %d m1" % value,
-                 "run vendor price b /news/1 %d" % value, "link $unpaid", "run vendor serve b l 1")
+                 "run vendor price b /news/1 %d" % value, "link $unpaid", "run vendor serve b l:80 1")
     for count in (0, 1, 2, 255, 256, 257):
         out.case("a mint of %d pieces" % count, "book $shop", "clock 1000000", "run vendor mint b %d 1 m1" % count,
                  "run vendor mint b 1 1 m2")
@@ -122,7 +122,7 @@ def numbers_at_bounds(out):
         out.case("a keeping time of %d" % keep, "clock 1000000",
                  "run vendor init b news.example 4096 8192 $ones $twos --keep %d --clear" % keep, 'link "hi"',
                  "run vendor goods b /news/1 25", "run vendor licence b 1 4096 8192 $threes $fours",
-                 *("link $pays",) * 3, "clock 1000000 %d %d" % (NOW + keep - 1, NOW + keep), "run vendor serve b l 3")
+                 *("link $pays",) * 3, "clock 1000000 %d %d" % (NOW + keep - 1, NOW + keep), "run vendor serve b l:80 3")
 
 
 def heads():
@@ -130,7 +130,7 @@ def heads():
                 "book of a vendor.")
 
     def served(name, links):
-        out.case(name, "clock 1000000", *(line for link in links for line in ("book $shop", "link " + link, "run vendor serve b l 1")))
+        out.case(name, "clock 1000000", *(line for link in links for line in ("book $shop", "link " + link, "run vendor serve b l:80 1")))
     served("cut at every place", cut("pays_curl"))
     for byte in (0x00, 0x0a, 0xff):
         for start in range(0, length("$pays_curl"), 20):
@@ -182,7 +182,7 @@ def links():
             lines.append("clock " + " ".join(map(str, readings)))
             if numbers.below(10) == 0:
                 lines.append("fail link %d" % numbers.below(10))
-            lines.append("run vendor serve b l %d" % numbers.of((1, 2, 3, count)))
+            lines.append("run vendor serve b l:80 %d" % numbers.of((1, 2, 3, count)))
         out.case("serving %d" % round, *lines)
     out.write("links")
 
@@ -569,7 +569,7 @@ def operators():
         if numbers.below(6) == 0:
             lines += ["fail disk %d" % numbers.below(7), "run vendor mint b 2 50 last",
                       "crash %d" % numbers.of((0, 1, 2, 128))]
-        lines += [*serving, "clock %d" % time, "run vendor serve b l 4", "replay"]
+        lines += [*serving, "clock %d" % time, "run vendor serve b l:80 4", "replay"]
         out.case("orders %d" % round, *lines)
     out.write("operators")
 

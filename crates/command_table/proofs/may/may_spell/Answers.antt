@@ -4,6 +4,12 @@ use Rattle.command_table.proofs.may.may_spell.Goals as goal
 pub returns-in-Place : goal.returns-in-Place
 returns-in-Place c = spells_as _ _ c.in-Place.is c.may_place.ensures
 
+pub returns-in-Listen : goal.returns-in-Listen
+returns-in-Listen c = spells_as _ _ c.in-Listen.is c.may_listen.ensures
+
+pub returns-in-Connect : goal.returns-in-Connect
+returns-in-Connect c = spells_as _ _ c.in-Connect.is c.may_connect.ensures
+
 pub returns-in-Name : goal.returns-in-Name
 returns-in-Name c = spells_as _ _ c.in-Name.is c.may_name.ensures
 
