@@ -27,10 +27,10 @@ use std::alloc::Global;
 /// grow to these limits; its time is the entry's moment.
 ///
 /// A disk that encodes the empty history is used as it is and not cut, and any other of at most nine bytes is written
-/// anew. A longer one is left as it is: `NotEmpty` tells its size. `Disk` comes only where the disk failed,
-/// `NoMemory` with nothing written, and no other fault does. A crash in this call leaves what encodes no
+/// anew. Any other is left as it is, also where the disk fails: `NotEmpty` has its size. `Disk` comes only where the
+/// disk failed, `NoMemory` with nothing written, and no other fault does. A crash in this call leaves what encodes no
 /// entries or the Site entry, or what a crash before could have left, and at most nine bytes where the
-/// disk is written anew.
+/// disk is written anew; of any other disk, what a crash before could have left alone.
 pub fn found_house<D: Disk, T: Trade>(
     alloc: Global,
     disk: D,

@@ -11,14 +11,19 @@ use Rattle.scrip_journal.specs.declared.fault.HouseFault.TheVariants.{NotJournal
 use Rattle.scrip_journal.specs.Opens.{NoLonger}
 use Rattle.scrip_journal.specs.Exits.{EitherNoOutput}
 use Rattle.scrip_journal.proofs.Reading.{some_same}
-use Rattle.scrip_journal.specs.Founds.{IsFree, IsNoEmptyJournal, EmptiedImage, FoundsBookBy, ReadsOnly, ShortNoOutput, FoundImage, FoundNoOutput, ClearsSmall, EntersFirst, IsOfWriting}
+use Rattle.scrip_journal.specs.Founds.{IsFree, WasFree, NeedsEmptying, EmptiedImage, FoundsBookBy, ReadsOnly, ShortNoOutput, FoundImage, FoundNoOutput, ClearsSmall, EntersFirst, IsOfWriting}
 
 pub ran_at : {D : Type 0} (view : D → DiskView) (a : DiskView) (d e : D) (P : List ℕ → List ℕ → Type 0) → e ≡ d → Ran a (view d) P → Ran a (view e) P
 ran_at {D = D} view a d e P is ran = subst (λ (x : D). Ran a (view x) P) (sym is) ran
 
 -- by the bytes that the disk tells
-no_empty : (d : DiskView) (x : List ℕ) → d.contents ≡ Some x → (Encodes [] x → ⊥) → IsNoEmptyJournal d
-no_empty d x told other bytes here stands = other (subst (Encodes []) (some_same bytes x (sym here ∙ told)) stands)
+needs_emptying : (d : DiskView) (x : List ℕ) → d.contents ≡ Some x → length x ≤ 9 → (Encodes [] x → ⊥) → NeedsEmptying d
+needs_emptying d x told small other bytes here =
+    let same = some_same bytes x (sym here ∙ told) in
+    (subst (λ (z : List ℕ). length z ≤ 9) (sym same) small, λ stands. other (subst (Encodes []) same stands))
+
+was_free : (d : DiskView) (x : List ℕ) → d.contents ≡ Some x → IsFree x → WasFree d
+was_free d x told free bytes here = subst (λ (z : List ℕ). IsFree z) (sym (some_same bytes x (sym here ∙ told))) free
 
 -- such an image of a disk whose bytes were the same before
 emptied_before : (a b : DiskView) (c : List ℕ) → b.contents ≡ a.contents → (b.leaves c → a.leaves c) → EmptiedImage b c → EmptiedImage a c
@@ -26,7 +31,8 @@ emptied_before a b c same left image = ⊎_elim (λ short. inl (short.0, λ byte
 
 -- and of one at which only links worked since
 pub found_before : (a b : DiskView) (e : Entry) (c : List ℕ) → LinkKeeps a b → FoundImage b e c → FoundImage a e c
-found_before a b e c keeps image = ⊎_elim (λ emptied. inl (emptied_before a b c keeps.contents (keeps.leaves c).0 emptied)) (λ encoded. inr encoded) image
+found_before a b e c keeps image =
+    ⊎_elim (λ emptied. inl (emptied_before a b c keeps.contents (keeps.leaves c).0 emptied)) (λ encoded. inr (λ bytes told. encoded.0 bytes (keeps.contents ∙ told), encoded.1)) image
 
 -- what was only read left nothing new
 pub read_short : (a b : DiskView) → OnlyRead a b → Ran a b (ShortNoOutput a)
@@ -39,7 +45,7 @@ short_then a b d read ran = ran_then a b d (ShortNoOutput a) (read_short a b rea
 -- a small disk that was synced, and then founded; it did not encode the empty history
 pub founded_short : (a b d : DiskView) (x : List ℕ) → OnlyRead a b → a.contents ≡ Some x → IsSynced a → length x ≤ 9 → (Encodes [] x → ⊥) → Ran b d (NoLonger b) → Ran a d (ShortNoOutput a)
 founded_short a b d x read told synced small other ran =
-    short_then a b d read (ran_weaker b d (NoLonger b) (ShortNoOutput b) ran (λ c s p. (inl (short c p.0.0 p.0.1 p.0.2, no_empty b x (read.contents ∙ told) other), p.1)))
+    short_then a b d read (ran_weaker b d (NoLonger b) (ShortNoOutput b) ran (λ c s p. (inl (short c p.0.0 p.0.1 p.0.2, needs_emptying b x (read.contents ∙ told) small other), p.1)))
   where
     short : (c e : List ℕ) → b.leaves e → length c ≤ max 9 (length e) → length c ≤ 9
     short c e l le =
@@ -62,9 +68,9 @@ pub short_found : (a b : DiskView) (e : Entry) → Ran a b (ShortNoOutput a) →
 short_found a b e ran = ran_weaker a b (ShortNoOutput a) (FoundNoOutput a e) ran (λ c s p. (inl p.0, p.1))
 
 -- and then the entry was written
-pub found_quiet : (a b d : DiskView) (e : Entry) → DiskGoes a b → Ran a b (ShortNoOutput a) → Ran b d (EitherNoOutput [] e b.aside) → Ran a d (FoundNoOutput a e)
-found_quiet a b d e goes first then' =
-    ran_then a b d (FoundNoOutput a e) (short_found a b e first) (ran_weaker b d (EitherNoOutput [] e b.aside) (FoundNoOutput a e) then' (λ c s p. (inr p.0, p.1 ∙ goes.aside)))
+pub found_quiet : (a b d : DiskView) (e : Entry) (x : List ℕ) → a.contents ≡ Some x → IsFree x → DiskGoes a b → Ran a b (ShortNoOutput a) → Ran b d (EitherNoOutput [] e b.aside) → Ran a d (FoundNoOutput a e)
+found_quiet a b d e x told free goes first then' =
+    ran_then a b d (FoundNoOutput a e) (short_found a b e first) (ran_weaker b d (EitherNoOutput [] e b.aside) (FoundNoOutput a e) then' (λ c s p. (inr (was_free a x told free, p.0), p.1 ∙ goes.aside)))
 
 -- ---- which bytes encode no entries
 
@@ -104,14 +110,26 @@ founded view e x (Err (NotEmpty d count)) free is = absurd is
 founded view e x (Err (Disk d)) free is = tt
 founded view e x (Err (NoMemory d)) free is = tt
 
--- what no fault leaves unwritten
-pub wrote : {D A : Type 0} (view : D → DiskView) (disk : D) (result : Result A (HouseFault D)) → IsOfWriting result → ReadsOnly view disk result
-wrote view disk (Ok x) is = tt
-wrote view disk (Err (NotJournal d)) is = tt
-wrote view disk (Err (BadRecord d place)) is = tt
-wrote view disk (Err (BadChain d place stood computed)) is = tt
-wrote view disk (Err (Unlawful d place)) is = tt
-wrote view disk (Err (WrongKind d)) is = tt
-wrote view disk (Err (NotEmpty d count)) is = absurd is
-wrote view disk (Err (Disk d)) is = tt
-wrote view disk (Err (NoMemory d)) is = absurd is
+-- what no fault leaves unwritten, on a disk that was free
+pub wrote : {D A : Type 0} (view : D → DiskView) (disk : D) (result : Result A (HouseFault D)) → WasFree (view disk) → IsOfWriting result → ReadsOnly view disk result
+wrote view disk (Ok x) free is = tt
+wrote view disk (Err (NotJournal d)) free is = tt
+wrote view disk (Err (BadRecord d place)) free is = tt
+wrote view disk (Err (BadChain d place stood computed)) free is = tt
+wrote view disk (Err (Unlawful d place)) free is = tt
+wrote view disk (Err (WrongKind d)) free is = tt
+wrote view disk (Err (NotEmpty d count)) free is = absurd is
+wrote view disk (Err (Disk d)) free is = λ x told taken. absurd (taken (free x told))
+wrote view disk (Err (NoMemory d)) free is = absurd is
+
+-- what was read before
+pub read_before : {D A : Type 0} (view : D → DiskView) (disk m : D) (result : Result A (HouseFault D)) → OnlyRead (view disk) (view m) → ReadsOnly view m result → ReadsOnly view disk result
+read_before view disk m (Ok x) read is = tt
+read_before view disk m (Err (NotJournal d)) read is = tt
+read_before view disk m (Err (BadRecord d place)) read is = tt
+read_before view disk m (Err (BadChain d place stood computed)) read is = tt
+read_before view disk m (Err (Unlawful d place)) read is = tt
+read_before view disk m (Err (WrongKind d)) read is = tt
+read_before view disk m (Err (NotEmpty d count)) read is = read_then (view disk) (view m) (view d) read is
+read_before view disk m (Err (Disk d)) read is = λ x told taken. read_then (view disk) (view m) (view d) read (is x (read.contents ∙ told) taken)
+read_before view disk m (Err (NoMemory d)) read is = read_then (view disk) (view m) (view d) read is

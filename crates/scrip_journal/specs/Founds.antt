@@ -19,22 +19,27 @@ pub record IsTaken (bytes : List ℕ) (count : ℕ) : Type 0 where
   pub many : EMPTY_JOURNAL < count
   pub other : Encodes [] bytes → ⊥
 
--- the bytes of the disk, where it tells them, don't encode the empty history
-abbrev pub IsNoEmptyJournal : DiskView → Type 0
-IsNoEmptyJournal d = (bytes : List ℕ) → d.contents ≡ Some bytes → Encodes [] bytes → ⊥
+-- the disk may be founded on, where it tells its bytes
+abbrev pub WasFree : DiskView → Type 0
+WasFree d = (bytes : List ℕ) → d.contents ≡ Some bytes → IsFree bytes
+
+-- the bytes of the disk, where it tells them, are nine at most, and don't encode the empty history
+abbrev pub NeedsEmptying : DiskView → Type 0
+NeedsEmptying d = (bytes : List ℕ) → d.contents ≡ Some bytes → (length bytes ≤ EMPTY_JOURNAL) × (Encodes [] bytes → ⊥)
 
 -- An image that a crash before could have left; or one of at most nine bytes, where the disk has to be written anew.
 -- A disk that encodes the empty history is used as it is.
 abbrev pub EmptiedImage : DiskView → List ℕ → Type 0
-EmptiedImage before c = ((length c ≤ EMPTY_JOURNAL) × IsNoEmptyJournal before) ⊎ before.leaves c
+EmptiedImage before c = ((length c ≤ EMPTY_JOURNAL) × NeedsEmptying before) ⊎ before.leaves c
 
 -- a crash pair of such an image, with nothing sent
 abbrev pub ShortNoOutput : DiskView → List ℕ → List ℕ → Type 0
 ShortNoOutput before c s = EmptiedImage before c × (s ≡ before.aside)
 
--- such an image, or one that encodes no entries or this one alone
+-- Such an image, or one that encodes no entries or this one alone, where the disk may be founded on. Of any other
+-- disk each image is one that a crash before could have left.
 abbrev pub FoundImage : DiskView → Entry → List ℕ → Type 0
-FoundImage before e c = EmptiedImage before c ⊎ (Encodes [] c ⊎ Encodes (e ∷ []) c)
+FoundImage before e c = EmptiedImage before c ⊎ (WasFree before × (Encodes [] c ⊎ Encodes (e ∷ []) c))
 
 -- a crash pair of such an image, with nothing sent
 abbrev pub FoundNoOutput : DiskView → Entry → List ℕ → List ℕ → Type 0
@@ -76,10 +81,12 @@ CountsBy (Err (NoMemory d)) before after = after ≡ before
 CountsBy (Err (Disk d)) before after = Rose before after
 CountsBy (Err _) before after = ⊥
 
--- nothing is written where the disk is taken or memory is refused
+-- Nothing is written where the disk is taken or memory is refused, nor where the disk failed and its bytes are told
+-- and can't be founded on.
 abbrev pub ReadsOnly : {D A : Type 0} → (D → DiskView) → D → Result A (HouseFault D) → Type 0
 ReadsOnly view disk (Err (NotEmpty d count)) = OnlyRead (view disk) (view d)
 ReadsOnly view disk (Err (NoMemory d)) = OnlyRead (view disk) (view d)
+ReadsOnly view disk (Err (Disk d)) = (x : List ℕ) → (view disk).contents ≡ Some x → (IsFree x → ⊥) → OnlyRead (view disk) (view d)
 ReadsOnly view disk _ = Unit {0}
 
 -- ---- its steps

@@ -24,10 +24,10 @@ use std::alloc::Global;
 /// Founds a book by its first entry; it may grow to `limits.journal` bytes, for which the entry has room.
 ///
 /// A disk that encodes the empty history is used as it is and not cut, and any other of at most nine bytes is written
-/// anew. Any other is left as it is: `NotEmpty` tells its size. `Disk` comes only where the disk failed,
-/// `NoMemory` with nothing written, and no other fault does. A crash in this call leaves what encodes no
+/// anew. Any other is left as it is, also where the disk fails: `NotEmpty` has its size. `Disk` comes only where the
+/// disk failed, `NoMemory` with nothing written, and no other fault does. A crash in this call leaves what encodes no
 /// entries or this one, or what a crash before could have left, and at most nine bytes where the disk is
-/// written anew.
+/// written anew; of any other disk, what a crash before could have left alone.
 pub fn found_book<D: Disk>(
     alloc: Global,
     disk: D,

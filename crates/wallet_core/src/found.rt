@@ -24,9 +24,10 @@ use wallet_book::WalletBook;
 /// entry has room; its time is `now`.
 ///
 /// A disk that encodes the empty history is used as it is and not cut, and any other of at most nine bytes is written anew. Any
-/// other is left as it is: `NotEmpty` tells its size. `Disk` comes only where the disk failed, `NoMemory`
-/// with nothing written, and no other fault does. A crash in this call leaves what encodes no entries
-/// or the Site entry, or what a crash before could have left, and at most nine bytes where the disk is written anew.
+/// other is left as it is, also where the disk fails: `NotEmpty` has its size. `Disk` comes only where the disk failed,
+/// `NoMemory` with nothing written, and no other fault does. A crash in this call leaves what encodes no entries
+/// or the Site entry, or what a crash before could have left, and at most nine bytes where the disk is written anew;
+/// of any other disk, what a crash before could have left alone.
 pub fn found_wallet<D: Disk>(
     alloc: Global,
     disk: D,

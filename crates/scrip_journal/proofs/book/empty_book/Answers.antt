@@ -1,11 +1,12 @@
 use Rattle.std.proofs.Common.{[], List, ℕ, Option, Ok, inl, ap, ◌∙◌, sym, subst}
 use Rattle.mc_outside.specs.DiskView.{OnlyRead}
+use Rattle.mc_outside.proofs.Runs.{read_then}
 use Rattle.scrip_journal.specs.Layout.{Encodes, IsSpoiled, IsUnchained}
 use Rattle.scrip_journal.specs.Founds.{book_disk}
 use Rattle.scrip_journal.specs.Replays.{ReadsOn}
 use Rattle.scrip_journal.proofs.Unique.{not_both, chain_or_history}
 use Rattle.scrip_journal.proofs.Reading.{bytes_told}
-use Rattle.scrip_journal.proofs.FoundLemmas.{no_more, cleared, empty_begins, short_then, read_then_emptied}
+use Rattle.scrip_journal.proofs.FoundLemmas.{no_more, cleared, empty_begins, short_then, read_then_emptied, read_before}
 use Rattle.scrip_journal.proofs.Uncut.{uncut_same}
 use Rattle.scrip_journal.proofs.book.empty_book.Goals as goal
 
@@ -109,3 +110,23 @@ returns-in-Err-BadChain-clause-uncut g c x told stands =
     let reads = rw c.in-Err-BadChain.field-0-is at c.in-Err-BadChain.ensures.reads [] r in
     let unchained = subst (λ (bytes : List ℕ). IsUnchained [] bytes c.in-Err-BadChain.field-0-0 c.in-Err-BadChain.field-0-1 c.in-Err-BadChain.field-0-2) (bytes_told g.D.Disk.disk c.in-Ok.replay [] x r (c.in-Ok.ensures.read.contents ∙ told)) reads.0 in
     absurd (chain_or_history [] [] x c.in-Err-BadChain.field-0-0 c.in-Err-BadChain.field-0-1 c.in-Err-BadChain.field-0-2 unchained stands)
+
+pub returns-in-Err-NotJournal-clause-read : goal.returns-in-Err-NotJournal-clause-read
+returns-in-Err-NotJournal-clause-read g c =
+    let read = rw c.in-Err-NotJournal.field-0-is at c.in-Err-NotJournal.ensures.read in
+    read_before g.D.Disk.disk c.args.disk c.in-Err-NotJournal.disk c.empty_small.result read c.empty_small.ensures.read
+
+pub returns-in-Ok-Some-clause-read : goal.returns-in-Ok-Some-clause-read
+returns-in-Ok-Some-clause-read g c =
+    let read = subst (λ (d : g.row.D.Denot). OnlyRead (g.D.Disk.disk c.in-Ok.replay.disk) (g.D.Disk.disk d)) (sym c.close.ensures) c.next_record.ensures.only_read in
+    read_before g.D.Disk.disk c.args.disk c.close.result c.empty_small-in-Ok-Some.result (read_then _ _ _ c.in-Ok.ensures.read read) c.empty_small-in-Ok-Some.ensures.read
+
+pub returns-in-Err-BadRecord-clause-read : goal.returns-in-Err-BadRecord-clause-read
+returns-in-Err-BadRecord-clause-read g c =
+    let read = subst (λ (d : g.row.D.Denot). OnlyRead (g.D.Disk.disk c.in-Ok.replay.disk) (g.D.Disk.disk d)) (sym c.close-in-Err-BadRecord.ensures) c.next_record.ensures.only_read in
+    read_before g.D.Disk.disk c.args.disk c.close-in-Err-BadRecord.result c.empty_small-in-Err-BadRecord.result (read_then _ _ _ c.in-Ok.ensures.read read) c.empty_small-in-Err-BadRecord.ensures.read
+
+pub returns-in-Err-BadChain-clause-read : goal.returns-in-Err-BadChain-clause-read
+returns-in-Err-BadChain-clause-read g c =
+    let read = subst (λ (d : g.row.D.Denot). OnlyRead (g.D.Disk.disk c.in-Ok.replay.disk) (g.D.Disk.disk d)) (sym c.close-in-Err-BadChain.ensures) c.next_record.ensures.only_read in
+    read_before g.D.Disk.disk c.args.disk c.close-in-Err-BadChain.result c.empty_small-in-Err-BadChain.result (read_then _ _ _ c.in-Ok.ensures.read read) c.empty_small-in-Err-BadChain.ensures.read
