@@ -1,4 +1,4 @@
-/* The least that a site which sells pages has to do, for `measure.py`: it takes one connection after another, and for each head that
+/* The least that a site which sells pages has to do, for `overall.py`: it takes one connection after another, and for each head that
  * ends with an empty line writes an entry behind a closed gate, syncs, opens the gate, syncs, and sends a reply of fixed bytes. It
  * checks nothing and keeps nothing else.    plain FILE PORT ENTRY REPLY: sizes in bytes */
 #include <arpa/inet.h>

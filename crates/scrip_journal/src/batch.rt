@@ -130,8 +130,7 @@ impl<D: Disk> Batch<D> {
             return None;
         }
         let switched = self.at.switched;
-        let (bytes, chain) =
-            put_block_at(&mut self.at.buf, self.bytes, r, switched, self.at.chain);
+        let (bytes, chain) = put_block_at(&mut self.at.buf, self.bytes, r, switched, self.at.chain);
         self.bytes += bytes;
         self.at.switched = stands_with(switched, r.is_switch());
         self.at.chain = chain;
@@ -202,10 +201,7 @@ impl<D: Disk> Batch<D> {
             first,
         } = self;
         let (mut disk, at) = (disk, at);
-        if disk
-            .write_at(at.gate + 1, &at.buf[1..bytes + 1])
-            .is_err()
-        {
+        if disk.write_at(at.gate + 1, &at.buf[1..bytes + 1]).is_err() {
             return Err(Halted { disk });
         }
         if disk.sync().is_err() {

@@ -141,8 +141,7 @@ link_leads limits w i s bytes (item ∷ items) (text ∷ texts) (r ∷ rs) (d �
         (tt, (refl, rest.2)),
       )
       | inr wants ↦
-          let at : d.after ≡ raised s (clamped r) = wants_after limits s r item d wants ∙ ap (λ (n : ℕ). raised s n) (sym (moment_is r moments.0)) in
-          (
+          let at : d.after ≡ raised s (clamped r) = wants_after limits s r item d wants ∙ ap (λ (n : ℕ). raised s n) (sym (moment_is r moments.0)) in (
             Forge text ∷ Read i r ∷ Tell d.sent ∷ rest.0,
             (sent, inl refl, (with_house sent i d.after, inl (record { s = s; house = house; after = ap (λ (t : State). with_house sent i t) at }), (x, inl refl, here))),
             (tt, (refl, (tt, rest.2))),
@@ -203,8 +202,7 @@ texts_part bytes [] (text ∷ texts) are = absurd are
 texts_part bytes (item ∷ items) [] are = absurd are
 texts_part bytes (item ∷ items) (text ∷ texts) are =
     let rest = are.1.0 in
-    let is = are.1.1 in
-    (
+    let is = are.1.1 in (
       ([], rest, is),
       all_weaker (IsPartOf rest) (IsPartOf bytes) (λ t p. (text ++ p.0, p.1, is ∙ ap (λ (l : List ℕ). text ++ l) p.2 ∙ sym (append_assoc text p.0 (t ++ p.1)))) texts (texts_part rest items texts are.1.2),
     )

@@ -407,7 +407,7 @@ fronts_lead limits i (suc n) s steps before after had done rest is w house tells
           let m = b.0 in
           let here = fronts_lead limits i n s first before between had.4 first [] (sym (append-nil first)) w house told in
           let both = leads_on limits w i s (state_after s first) (state_after (state_after s first) m) between after grow house here (λ x there.
-              link_front limits x i (state_after s first) last between after there (link_is_schedule limits x i (state_after s first) last (next_taken between) after there link) tells m rest b.2) in
+          link_front limits x i (state_after s first) last between after there (link_is_schedule limits x i (state_after s first) last (next_taken between) after there link) tells m rest b.2) in
           subst (λ (t : State). Leads limits w i t after) (sym (ap (state_after s) b.1 ∙ state_after-append s first m)) both
     ]
 
@@ -435,9 +435,9 @@ first_lead limits i links s steps before after e said x w house tells =
     let at = p.here (after_link w i (state_after s x.front) a.texts a.replies) (set_here w.houses i s (state_after s x.front) house) in
     let grow = grows_by x.between after at.got (tells_front x.between after at.got said x.last at.heard) in
     let b = leads_on limits w i s (state_after s x.front) (state_after (state_after s x.front) x.last) x.between after grow house a (λ y there.
-        let f = p.here y there in
-        let z = link_leads limits y i (state_after s x.front) f.got f.items f.texts f.readings x.last there f.of_bytes (f.moments tells) f.ran in
-        record { events = z.0; texts = f.texts; replies = replies_of x.last; plays = z.1; received = texts_received x.between after f.got f.items f.texts f.of_bytes (tells_front x.between after f.got said x.last f.heard); serving = z.2 }) in
+    let f = p.here y there in
+    let z = link_leads limits y i (state_after s x.front) f.got f.items f.texts f.readings x.last there f.of_bytes (f.moments tells) f.ran in
+    record { events = z.0; texts = f.texts; replies = replies_of x.last; plays = z.1; received = texts_received x.between after f.got f.items f.texts f.of_bytes (tells_front x.between after f.got said x.last f.heard); serving = z.2 }) in
     subst (λ (t : State). Leads limits w i t after) (sym (ap (state_after s) x.steps_are ∙ state_after-append s x.front x.last)) b
 
 -- ---- with the request in doubt
@@ -460,8 +460,7 @@ doubt_link limits w i s steps between stopped after e said house l ended' tells 
     let texts = texts_read l.got l.first.held (l.front ++ item ∷ []) l.first.read in
     let here : TellsMoments stopped = same_moments stopped after (ap (λ (v : LinkView). v.readings) ended') tells in
     let x = link_leads limits w i s l.got (l.front ++ item ∷ []) texts.texts all.readings (steps ++ d ∷ []) house texts.are (these_moments (next_taken between) stopped all.readings all.read here) all.ran in
-    let heard : after.sessions ≡ (after_send said (after_send (sent_of steps) (after_recv l.got (next_taken between)))).sessions = ap sessions_of ended' ∙ sends_sessions _ said _ stopped l.in_doubt.sent in
-    (
+    let heard : after.sessions ≡ (after_send said (after_send (sent_of steps) (after_recv l.got (next_taken between)))).sessions = ap sessions_of ended' ∙ sends_sessions _ said _ stopped l.in_doubt.sent in (
       d.after,
       refl,
       subst (λ (t : State). Leads limits w i t after) (state_after-append s steps (d ∷ [])) (record {
@@ -486,8 +485,7 @@ doubt_leads limits i links s steps before after e said x w house tells =
     let there = set_here w.houses i s (state_after s x.front) house in
     let heard : after.sessions ≡ (after_send said (after_send (sent_of x.last) (after_recv l.got (next_taken x.between)))).sessions = ap sessions_of x.ended ∙ sends_sessions _ said _ x.stopped l.in_doubt.sent in
     let grow = grows_by x.between after l.got (tells_front x.between after l.got said x.last heard) in
-    let z = doubt_link limits y i (state_after s x.front) x.last x.between x.stopped after e said there l x.ended tells in
-    (
+    let z = doubt_link limits y i (state_after s x.front) x.last x.between x.stopped after e said there l x.ended tells in (
       z.0,
       z.1 ∙ ap (λ (t : State). t.history ++ e ∷ []) (sym (ap (state_after s) x.steps_are ∙ state_after-append s x.front x.last)),
       leads_from limits w i s (state_after s x.front) z.0 x.between after grow house a z.2,

@@ -31,4 +31,3 @@ returns-in-Err-NoMemory-clause-went g c h es ahead =
     c.self.view_is c.raise.ensures.raised c.raise.ensures.limits c.raise.ensures.same c.raise.ensures.contents c.keep_some.ensures.same c.respond_into.ensures.time (ap (λ (s : HouseStateView). s.time) c.keep_some.ensures.rest)
     c.respond_into.ensures.exact c.respond_into.ensures.contents c.respond_into.ensures.gathered h es ahead in
     subst (λ (r : Result ℕ BenchFault). ReachesAhead g.D.Disk.disk g.T.Trade.trade (Says (answer (h ++ es) (max (house_time c.args.self.now) c.args.reading) (limits_of c.args.self.now) c.args.q.now) (said_of r) (raised (state_of (h ++ es) c.args.self.now) c.args.reading)) c.respond_into.new.self c.respond_into.new.batch h) (c.in-Err-NoMemory.is ∙ ap (λ (f : BenchFault). Err f) c.in-Err-NoMemory.field-0-is) said
-

@@ -1,7 +1,7 @@
 #!/usr/bin/env python3
 """How near the program is to what limits it: a row each, with what was measured, its limit in the same run, and their ratio.
 
-    scripts/measure/measure.py [PAYMENTS [BOOK]]
+    scripts/measure/overall.py [PAYMENTS [BOOK]]
 
 Serving stands beside a plain loop over sockets (`plain.c`), which does the same writes and syncs and nothing else; the two take
 turns, so that both meet the same load of the machine. Opening a book and telling its chain stand beside the digests that its entries
