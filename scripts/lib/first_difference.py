@@ -10,6 +10,8 @@ from pathlib import Path
 TOP = Path(__file__).resolve().parents[2]
 CASES = TOP / "crates/cases"
 NAMES = "names.cases"
+# How much is shown of a long line, before the column where it differs and behind it.
+BEFORE, BEHIND = 80, 120
 
 
 def built(files):
@@ -27,8 +29,8 @@ def tried(files):
     data = [word for file in files for word in ("--data", "%s=data/%s" % (file, file))]
     how = {"stdin": subprocess.DEVNULL, "stdout": subprocess.PIPE, "stderr": subprocess.PIPE}
     ran = subprocess.run(["rt", "try", "cases", *data, "--", *files], cwd=CASES, **how)
-    told = ran.stderr.decode(errors="replace").strip().splitlines() or ["ended with status %d" % ran.returncode]
-    return ran.stdout, told[-1]
+    told = ran.stderr.decode(errors="replace").strip().splitlines() or ["rt ended with status %d" % ran.returncode]
+    return ran.stdout, "ended so: " + told[-1]
 
 
 def cases_of(files):
@@ -54,8 +56,19 @@ def differ_first(wanted, printed):
     return None
 
 
-def shown(line, ended):
-    return "(nothing: the program %s)" % ended if line is None else line.decode(errors="replace")
+def shown(line, column):
+    """A line as text, of a long one what is about this column; nothing where there is no line."""
+    if line is None:
+        return "(nothing)"
+    start, end = max(0, column - BEFORE), column + BEHIND
+    parts = "..." if start else "", line[start:end].decode(errors="replace"), "..." if end < len(line) else ""
+    return "".join(parts)
+
+
+def column_of(line, other):
+    """The first column in which two lines differ, from 0."""
+    pairs = enumerate(zip_longest(line or b"", other or b""))
+    return next(at for at, (byte, another) in pairs if byte != another)
 
 
 def main(names):
@@ -71,12 +84,14 @@ def main(names):
         wanted = (CASES / "stdout").read_bytes()
     found = differ_first(wanted.splitlines(), printed.splitlines())
     if found is None:
-        print("no case differs: %s" % ended)
+        print("no case differs; the program %s" % ended)
         return 0
     number, line, other, case = found
     at = list(cases_of(files))[max(case, 0)]
     print("crates/cases/data/%s:%d: %s" % (at[0], at[1], at[2].decode(errors="replace")))
-    print("line %d of all that is printed\n  wanted:  %s\n  printed: %s" % (number, shown(line, ended), shown(other, ended)))
+    column = column_of(line, other)
+    print("line %d of what is printed, column %d; the program %s" % (number, column + 1, ended))
+    print("  wanted:  %s\n  printed: %s" % (shown(line, column), shown(other, column)))
     return 1
 
 
