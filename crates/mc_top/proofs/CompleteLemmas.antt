@@ -77,7 +77,7 @@ worked_grew link disk (wallets.Get getting) a b status calm works = wallet_ends.
 worked_grew link disk (wallets.Retry retrying) a b status calm works = wallet_ends.grew_by link disk a b status calm works.0
 worked_grew link disk (wallets.List wallet) a b status calm works = wallet_ends.grew_by link disk a b status calm works.0
 worked_grew link disk (wallets.Lines relaying) a b status calm works = wallet_ends.grew_by link disk a b status calm works.0
-worked_grew link disk (wallets.Chain wallet) a b status calm works = wallet_ends.grew_by link disk a b status calm works.0
+worked_grew link disk (wallets.Chain wallet) a b status calm works = wallet_ends.switch_grew link disk a b status calm works.0
 worked_grew link disk (wallets.Renew renewing) a b status calm works = wallet_ends.grew_by link disk a b status calm works.0
 
 -- whatever the command is, where its book is there

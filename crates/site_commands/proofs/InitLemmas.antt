@@ -1,5 +1,5 @@
 -- How founding a site in a book ends.
-use Rattle.std.proofs.Common.{◌≡◌, inl, inr, ℕ, ◌+◌, ◌≤◌, ◌^◌, List, [], ◌∷◌, refl, ap, ◌∙◌, subst, arith, Err}
+use Rattle.std.proofs.Common.{◌≡◌, inl, inr, ℕ, ◌+◌, ◌≤◌, ◌^◌, List, [], ◌∷◌, refl, ap, ◌∙◌, subst, arith, Some, Err}
 use Rattle.std.specs.Prelude.{IsSome}
 use Rattle.mc_outside.specs.DiskView.{DiskView, LinkKeeps, OnlyRead, Ran}
 use Rattle.mc_outside.specs.LinkView.{LinkView}
@@ -84,13 +84,13 @@ founded_for disk trade e bytes x at =
     stands_lawful disk trade x (e ∷ []) at.house (subst (λ (l : Limits). IsLawful l (e ∷ [])) at.limits' at.house.house.represents.state.lawful)
 
 -- nothing was founded
-pub not_founded : {O T : Type 0} (disk : O → DiskView) (trade : T → TradeView) (kind : ℕ) (founder : Founder) (moment : ℕ) (bytes : List ℕ) (a m : O) (fault : HouseFault O) → LinkKeeps (disk a) (disk m)
+pub not_founded : {O T : Type 0} (disk : O → DiskView) (trade : T → TradeView) (kind : ℕ) (founder : Founder) (moment : ℕ) (bytes : List ℕ) (a m : O) (fault : HouseFault O) → (disk a).contents ≡ Some bytes → LinkKeeps (disk a) (disk m)
     → FoundsHouseBy {D = O} {T = T} disk trade full (site_of kind founder moment) bytes (Err fault) → ReadsOnly {D = O} {A = HouseView O T} disk m (Err fault) → FoundsBy (disk a) kind founder bytes moment (fault_status fault) (disk (fault_disk fault))
-not_founded disk trade kind founder moment bytes a m (faults.NotEmpty d size) keeps by read = (size, refl, by, read.contents ∙ keeps.contents)
-not_founded disk trade kind founder moment bytes a m (faults.NoMemory d) keeps by read = read.contents ∙ keeps.contents
-not_founded disk trade kind founder moment bytes a m (faults.Disk d) keeps by read = tt
-not_founded disk trade kind founder moment bytes a m (faults.NotJournal d) keeps by read = absurd by
-not_founded disk trade kind founder moment bytes a m (faults.BadRecord d place) keeps by read = absurd by
-not_founded disk trade kind founder moment bytes a m (faults.BadChain d place stood computed) keeps by read = absurd by
-not_founded disk trade kind founder moment bytes a m (faults.Unlawful d place) keeps by read = absurd by
-not_founded disk trade kind founder moment bytes a m (faults.WrongKind d) keeps by read = absurd by
+not_founded disk trade kind founder moment bytes a m (faults.NotEmpty d size) told keeps by read = (size, refl, by, read.contents ∙ keeps.contents)
+not_founded disk trade kind founder moment bytes a m (faults.NoMemory d) told keeps by read = read.contents ∙ keeps.contents
+not_founded disk trade kind founder moment bytes a m (faults.Disk d) told keeps by read = λ taken. (read bytes (keeps.contents ∙ told) taken).contents ∙ keeps.contents
+not_founded disk trade kind founder moment bytes a m (faults.NotJournal d) told keeps by read = absurd by
+not_founded disk trade kind founder moment bytes a m (faults.BadRecord d place) told keeps by read = absurd by
+not_founded disk trade kind founder moment bytes a m (faults.BadChain d place stood computed) told keeps by read = absurd by
+not_founded disk trade kind founder moment bytes a m (faults.Unlawful d place) told keeps by read = absurd by
+not_founded disk trade kind founder moment bytes a m (faults.WrongKind d) told keeps by read = absurd by

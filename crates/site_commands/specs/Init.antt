@@ -12,12 +12,13 @@ use Rattle.site_words.specs.Words.{Founder}
 use Rattle.site_commands.specs.Founding.{site_of}
 use Rattle.site_commands.specs.Serving.{EncodesLawful}
 
--- what the disk is then, by how the command ended, where it had these bytes
+-- What the disk is then, by how the command ended, where it had these bytes. Those that a book can't be founded on stay, also
+-- where the disk failed.
 abbrev pub FoundsBy : DiskView → ℕ → Founder → List ℕ → ℕ → Status → DiskView → Type 0
 FoundsBy before kind founder bytes moment (ends.Founded name) after = (name ≡ founder.name) × IsFree bytes × EncodesLawful after (site_of kind founder moment ∷ [])
 FoundsBy before kind founder bytes moment (ends.Refused f) after = (size : ℕ) × (f ≡ refusals.NotEmpty size) × IsTaken bytes size × (after.contents ≡ before.contents)
 FoundsBy before kind founder bytes moment ends.NoMemory after = after.contents ≡ before.contents
-FoundsBy before kind founder bytes moment ends.DiskFault after = Unit {0}
+FoundsBy before kind founder bytes moment ends.DiskFault after = (IsFree bytes → ⊥) → after.contents ≡ before.contents
 FoundsBy before kind founder bytes moment _ after = ⊥
 
 -- how founding a site of a kind ended

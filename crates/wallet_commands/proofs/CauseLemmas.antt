@@ -18,7 +18,7 @@ use Rattle.wallet_core.specs.declared.outcome.WalletOut.TheVariants as outs
 use Rattle.wallet_core.specs.Answers.{TellsOnly, Any, IsFull, MayCheck, MayPend, MayTake}
 use Rattle.wallet_core.specs.Outcomes.{outcome_disk, CountsFaults}
 use Rattle.wallet_commands.specs.Books.{outcome_status}
-use Rattle.wallet_commands.specs.Causes.{NoneFailed, DiskFailed, LinkFailed, SettleRefused, CheckRefused, ReplyRefused, ReadRefused, LinkRefused, OnlyClocked, InputTaken, RefusedBy, CausesBy, WalletCauses}
+use Rattle.wallet_commands.specs.Causes.{NoneFailed, DiskFailed, LinkFailed, SettleRefused, CheckRefused, ReplyRefused, ReadRefused, LinkRefused, OnlyClocked, InputTaken, RefusedBy, CausesBy, BookCausesBy, WalletCauses, SwitchRefused, SwitchCauses}
 use Rattle.wallet_commands.specs.Founding.{InitCauses}
 
 -- calls of the links alone, by the counts of faults
@@ -46,10 +46,10 @@ causes_from R S link disk a m b ends.LinkFault first so second = link_then link 
 causes_from R S link disk a m b ends.Done first so second = none_then link disk a m b first second
 causes_from R S link disk a m b (ends.Did line) first so second = none_then link disk a m b first second
 causes_from R S link disk a m b ends.NoMemory first so second = none_then link disk a m b first second
-causes_from R S link disk a m b ends.NotJournal first so second = none_then link disk a m b first second
-causes_from R S link disk a m b (ends.BadEntry place) first so second = none_then link disk a m b first second
-causes_from R S link disk a m b (ends.BadChain place) first so second = none_then link disk a m b first second
-causes_from R S link disk a m b (ends.UnlawfulEntry place) first so second = none_then link disk a m b first second
+causes_from R S link disk a m b ends.NotJournal first so second = absurd second
+causes_from R S link disk a m b (ends.BadEntry place) first so second = absurd second
+causes_from R S link disk a m b (ends.BadChain place) first so second = absurd second
+causes_from R S link disk a m b (ends.UnlawfulEntry place) first so second = absurd second
 causes_from R S link disk a m b (ends.Refused f) first so second = (none_then link disk a m b first second.0, so f second.1)
 causes_from R S link disk a m b (ends.Served n) first so second = absurd second
 causes_from R S link disk a m b (ends.Founded name) first so second = absurd second
@@ -57,10 +57,18 @@ causes_from R S link disk a m b (ends.Proxied n paid) first so second = absurd s
 causes_from R S link disk a m b ends.BadWords first so second = absurd second
 causes_from R S link disk a m b (ends.Stranger name id) first so second = absurd second
 
+-- a book that was opened is none that can't be read
+opened_by : {O : Type 0} (R : Refusal → LinkView → LinkView → Type 0) (link : O → LinkView) (disk : O → DiskView) (a b : O) (status : Status) → CausesBy R link disk a status b → BookCausesBy R link disk a status b
+opened_by R link disk a b ends.NotJournal causes = absurd causes
+opened_by R link disk a b (ends.BadEntry place) causes = absurd causes
+opened_by R link disk a b (ends.BadChain place) causes = absurd causes
+opened_by R link disk a b (ends.UnlawfulEntry place) causes = absurd causes
+opened_by R link disk a b status causes = causes
+
 -- from the outside on that was opened
-pub causes_opened : {O : Type 0} (link : O → LinkView) (disk : O → DiskView) (a m b : O) (status : Status) → NoneFailed link disk a m → link m ≡ link a → WalletCauses link disk m status b → WalletCauses link disk a status b
+pub causes_opened : {O : Type 0} (link : O → LinkView) (disk : O → DiskView) (a m b : O) (status : Status) → NoneFailed link disk a m → link m ≡ link a → CausesBy RefusedBy link disk m status b → WalletCauses link disk a status b
 causes_opened link disk a m b status first same second =
-    causes_from RefusedBy RefusedBy link disk a m b status first (λ f why. subst (λ (v : LinkView). RefusedBy f v (link b)) same why) second
+    opened_by RefusedBy link disk a b status (causes_from RefusedBy RefusedBy link disk a m b status first (λ f why. subst (λ (v : LinkView). RefusedBy f v (link b)) same why) second)
 
 -- ---- refusals
 
@@ -126,10 +134,10 @@ outcome_causes May said link disk y (outs.Halted d) counts same told = record { 
 -- why a book was not opened
 pub opening_causes : {O : Type 0} (A : Type 0) (link : O → LinkView) (disk : O → DiskView) (a : O) (fault : HouseFault O) → CountedBy {D = O} {A = A} (Err fault) (disk a).faults (disk (fault_disk fault)).faults
     → link (fault_disk fault) ≡ link a → WalletCauses link disk a (fault_status fault) (fault_disk fault)
-opening_causes A link disk a (faults.NotJournal d) counts same = record { disk' = counts; link' = ap (λ (v : LinkView). v.faults) same }
-opening_causes A link disk a (faults.BadRecord d place) counts same = record { disk' = counts; link' = ap (λ (v : LinkView). v.faults) same }
-opening_causes A link disk a (faults.BadChain d place stood computed) counts same = record { disk' = counts; link' = ap (λ (v : LinkView). v.faults) same }
-opening_causes A link disk a (faults.Unlawful d place) counts same = record { disk' = counts; link' = ap (λ (v : LinkView). v.faults) same }
+opening_causes A link disk a (faults.NotJournal d) counts same = (record { disk' = counts; link' = ap (λ (v : LinkView). v.faults) same }, same)
+opening_causes A link disk a (faults.BadRecord d place) counts same = (record { disk' = counts; link' = ap (λ (v : LinkView). v.faults) same }, same)
+opening_causes A link disk a (faults.BadChain d place stood computed) counts same = (record { disk' = counts; link' = ap (λ (v : LinkView). v.faults) same }, same)
+opening_causes A link disk a (faults.Unlawful d place) counts same = (record { disk' = counts; link' = ap (λ (v : LinkView). v.faults) same }, same)
 opening_causes A link disk a (faults.WrongKind d) counts same = (record { disk' = counts; link' = ap (λ (v : LinkView). v.faults) same }, same)
 opening_causes A link disk a (faults.NotEmpty d size) counts same = absurd counts
 opening_causes A link disk a (faults.Disk d) counts same = record { disk' = counts; link' = ap (λ (v : LinkView). v.faults) same }
@@ -146,3 +154,73 @@ founding_causes A link disk a (faults.BadRecord d place) counts same = absurd co
 founding_causes A link disk a (faults.BadChain d place stood computed) counts same = absurd counts
 founding_causes A link disk a (faults.Unlawful d place) counts same = absurd counts
 founding_causes A link disk a (faults.WrongKind d) counts same = absurd counts
+
+-- ---- of telling the chain
+
+-- links that are as they were had their clock read at most
+still_clocked : (v w : LinkView) → w ≡ v → OnlyClocked v w
+still_clocked v w same = subst (λ (u : LinkView). OnlyClocked v u) (sym same) refl
+
+full_switch : (f : Refusal) (v w : LinkView) → OnlyClocked v w → IsFull f → SwitchRefused f v w
+full_switch (refusals.JournalFull size payload) v w clocked is = clocked
+full_switch f v w clocked is = absurd is
+
+-- once the clock was read
+pub switch_causes : {O A : Type 0} (line : List ℕ) (link : O → LinkView) (disk : O → DiskView) (a y : O) (out : WalletOut O A) → NoneFailed link disk a y → OnlyClocked (link a) (link y) → CountsFaults out (disk y).faults (disk (outcome_disk out)).faults
+    → link (outcome_disk out) ≡ link y → TellsOnly IsFull Any out → SwitchCauses link disk a (outcome_status (λ n. ends.Did line) out) (outcome_disk out)
+switch_causes line link disk a y (outs.Done x n) first clocked counts same told =
+    (none_then link disk a y x.journal.disk first (none_on_disk link disk y x.journal.disk counts same), subst (λ (v : LinkView). OnlyClocked (link a) v) (sym same) clocked)
+switch_causes line link disk a y (outs.Refused x f) first clocked counts same told =
+    let now = subst (λ (v : LinkView). OnlyClocked (link a) v) (sym same) clocked in
+    ((none_then link disk a y x.journal.disk first (none_on_disk link disk y x.journal.disk counts same), full_switch f (link a) (link x.journal.disk) now told), now)
+switch_causes line link disk a y (outs.NoMemory x) first clocked counts same told =
+    (none_then link disk a y x.journal.disk first (none_on_disk link disk y x.journal.disk counts same), subst (λ (v : LinkView). OnlyClocked (link a) v) (sym same) clocked)
+switch_causes line link disk a y (outs.Halted d) first clocked counts same told =
+    (disk_then link disk a y d first (record { disk' = counts; link' = ap (λ (v : LinkView). v.faults) same }), subst (λ (v : LinkView). OnlyClocked (link a) v) (sym same) clocked)
+
+-- memory was refused before
+pub switch_wanted : {O : Type 0} (link : O → LinkView) (disk : O → DiskView) (a b : O) → (disk b).faults ≡ (disk a).faults → link b ≡ link a → SwitchCauses link disk a ends.NoMemory b
+switch_wanted link disk a b counts same = (none_on_disk link disk a b counts same, still_clocked (link a) (link b) same)
+
+-- why a book was not opened
+pub switch_unopened : {O : Type 0} (A : Type 0) (link : O → LinkView) (disk : O → DiskView) (a : O) (fault : HouseFault O) → CountedBy {D = O} {A = A} (Err fault) (disk a).faults (disk (fault_disk fault)).faults
+    → link (fault_disk fault) ≡ link a → SwitchCauses link disk a (fault_status fault) (fault_disk fault)
+switch_unopened A link disk a (faults.NotJournal d) counts same = ((none_on_disk link disk a d counts same, same), still_clocked (link a) (link d) same)
+switch_unopened A link disk a (faults.BadRecord d place) counts same = ((none_on_disk link disk a d counts same, same), still_clocked (link a) (link d) same)
+switch_unopened A link disk a (faults.BadChain d place stood computed) counts same = ((none_on_disk link disk a d counts same, same), still_clocked (link a) (link d) same)
+switch_unopened A link disk a (faults.Unlawful d place) counts same = ((none_on_disk link disk a d counts same, same), still_clocked (link a) (link d) same)
+switch_unopened A link disk a (faults.WrongKind d) counts same = ((none_on_disk link disk a d counts same, same), still_clocked (link a) (link d) same)
+switch_unopened A link disk a (faults.NotEmpty d size) counts same = absurd counts
+switch_unopened A link disk a (faults.Disk d) counts same = (record { disk' = counts; link' = ap (λ (v : LinkView). v.faults) same }, still_clocked (link a) (link d) same)
+switch_unopened A link disk a (faults.NoMemory d) counts same = (none_on_disk link disk a d counts same, still_clocked (link a) (link d) same)
+
+-- from the outside on that was opened
+pub switch_opened : {O : Type 0} (link : O → LinkView) (disk : O → DiskView) (a m b : O) (status : Status) → NoneFailed link disk a m → link m ≡ link a → SwitchCauses link disk m status b → SwitchCauses link disk a status b
+switch_opened link disk a m b ends.DiskFault first same second = (disk_then link disk a m b first second.0, subst (λ (v : LinkView). OnlyClocked v (link b)) same second.1)
+switch_opened link disk a m b (ends.Did line) first same second = (none_then link disk a m b first second.0, subst (λ (v : LinkView). OnlyClocked v (link b)) same second.1)
+switch_opened link disk a m b ends.NoMemory first same second = (none_then link disk a m b first second.0, subst (λ (v : LinkView). OnlyClocked v (link b)) same second.1)
+switch_opened link disk a m b ends.NotJournal first same second = ((none_then link disk a m b first second.0.0, second.0.1 ∙ same), subst (λ (v : LinkView). OnlyClocked v (link b)) same second.1)
+switch_opened link disk a m b (ends.BadEntry place) first same second = ((none_then link disk a m b first second.0.0, second.0.1 ∙ same), subst (λ (v : LinkView). OnlyClocked v (link b)) same second.1)
+switch_opened link disk a m b (ends.BadChain place) first same second = ((none_then link disk a m b first second.0.0, second.0.1 ∙ same), subst (λ (v : LinkView). OnlyClocked v (link b)) same second.1)
+switch_opened link disk a m b (ends.UnlawfulEntry place) first same second = ((none_then link disk a m b first second.0.0, second.0.1 ∙ same), subst (λ (v : LinkView). OnlyClocked v (link b)) same second.1)
+switch_opened link disk a m b (ends.Refused f) first same second =
+    ((none_then link disk a m b first second.0.0, subst (λ (v : LinkView). SwitchRefused f v (link b)) same second.0.1), subst (λ (v : LinkView). OnlyClocked v (link b)) same second.1)
+switch_opened link disk a m b ends.LinkFault first same second = absurd second
+switch_opened link disk a m b ends.Done first same second = absurd second
+switch_opened link disk a m b (ends.Served n) first same second = absurd second.0
+switch_opened link disk a m b (ends.Founded name) first same second = absurd second.0
+switch_opened link disk a m b (ends.Proxied n paid) first same second = absurd second.0
+switch_opened link disk a m b ends.BadWords first same second = absurd second.0
+switch_opened link disk a m b (ends.Stranger name id) first same second = absurd second.0
+
+refused_switch : (f : Refusal) (v w : LinkView) → SwitchRefused f v w → RefusedBy f v w
+refused_switch refusals.WrongKind v w why = why
+refused_switch (refusals.JournalFull size payload) v w why = inr (inl why)
+refused_switch f v w why = absurd why
+
+-- they are causes of a command of a wallet
+pub switch_causes_so : {O : Type 0} (link : O → LinkView) (disk : O → DiskView) (a b : O) (status : Status) → SwitchCauses link disk a status b → WalletCauses link disk a status b
+switch_causes_so link disk a b ends.LinkFault causes = absurd causes
+switch_causes_so link disk a b ends.Done causes = absurd causes
+switch_causes_so link disk a b (ends.Refused f) causes = (causes.0.0, refused_switch f (link a) (link b) causes.0.1)
+switch_causes_so link disk a b status causes = causes.0

@@ -32,7 +32,8 @@ use Rattle.wallet_commands.specs.declared.saying.Saying.{Saying}
 use Rattle.wallet_commands.specs.declared.saying.Saying.TheVariants as sayings
 use Rattle.wallet_commands.specs.Lines.{got_line, holding_lines}
 use Rattle.wallet_core.specs.OnDisk.{HasWallet, EncodesWallet, NotOpened}
-use Rattle.wallet_commands.specs.Causes.{WalletCauses}
+use Rattle.wallet_commands.specs.Causes.{WalletCauses, SwitchCauses}
+use Rattle.wallet_commands.proofs.CauseLemmas.{switch_causes_so}
 use Rattle.wallet_commands.specs.Founding.{InitCauses}
 use Rattle.wallet_commands.specs.Taking.{TookBy, TakesBook}
 use Rattle.wallet_commands.specs.Listing.{ListsBook, SaysHeld, ListsHeld}
@@ -52,10 +53,10 @@ grew_by link disk a b ends.LinkFault calm causes = absurd (calm.link' causes.lin
 grew_by link disk a b ends.Done calm causes = stayed (link a).faults (link b).faults causes.link'
 grew_by link disk a b (ends.Did line) calm causes = stayed (link a).faults (link b).faults causes.link'
 grew_by link disk a b ends.NoMemory calm causes = stayed (link a).faults (link b).faults causes.link'
-grew_by link disk a b ends.NotJournal calm causes = stayed (link a).faults (link b).faults causes.link'
-grew_by link disk a b (ends.BadEntry place) calm causes = stayed (link a).faults (link b).faults causes.link'
-grew_by link disk a b (ends.BadChain place) calm causes = stayed (link a).faults (link b).faults causes.link'
-grew_by link disk a b (ends.UnlawfulEntry place) calm causes = stayed (link a).faults (link b).faults causes.link'
+grew_by link disk a b ends.NotJournal calm causes = stayed (link a).faults (link b).faults causes.0.link'
+grew_by link disk a b (ends.BadEntry place) calm causes = stayed (link a).faults (link b).faults causes.0.link'
+grew_by link disk a b (ends.BadChain place) calm causes = stayed (link a).faults (link b).faults causes.0.link'
+grew_by link disk a b (ends.UnlawfulEntry place) calm causes = stayed (link a).faults (link b).faults causes.0.link'
 grew_by link disk a b (ends.Refused f) calm causes = stayed (link a).faults (link b).faults causes.0.link'
 grew_by link disk a b (ends.Served n) calm causes = absurd causes
 grew_by link disk a b (ends.Founded name) calm causes = absurd causes
@@ -290,8 +291,11 @@ chained_readable d h None (ends.BadChain place) did is = did
 chained_readable d h None (ends.UnlawfulEntry place) did is = did
 chained_readable d h todo status did is = absurd (cc is)
 
-pub chained_well : {O : Type 0} (link : O → LinkView) (disk : O → DiskView) (a b : O) (status : Status) (has : HasWallet (disk a)) → Calm link disk a b → WalletCauses link disk a status b → ChainsBook link disk has.bytes a status b → Well status
-chained_well link disk a b status has calm causes (inl not) = inr (inl (only_memory link disk has.history has.bytes a b status has.stands has.lawful calm causes not))
+pub switch_grew : {O : Type 0} (link : O → LinkView) (disk : O → DiskView) (a b : O) (status : Status) → Calm link disk a b → SwitchCauses link disk a status b → (link a).faults ≤ (link b).faults
+switch_grew link disk a b status calm causes = grew_by link disk a b status calm (switch_causes_so link disk a b status causes)
+
+pub chained_well : {O : Type 0} (link : O → LinkView) (disk : O → DiskView) (a b : O) (status : Status) (has : HasWallet (disk a)) → Calm link disk a b → SwitchCauses link disk a status b → ChainsBook link disk has.bytes a status b → Well status
+chained_well link disk a b status has calm causes (inl not) = inr (inl (only_memory link disk has.history has.bytes a b status has.stands has.lawful calm (switch_causes_so link disk a b status causes) not))
 chained_well link disk a b status has calm causes (inr (inl wanted)) = inr (inl (ap number_of wanted.memory))
 chained_well link disk a b status has calm causes (inr (inr at)) =
-    well_by link disk a b status calm causes (chained_readable (disk b) at.history (switch_entry at.history (max (time at.history) at.moment)) status at.does.did)
+    well_by link disk a b status calm (switch_causes_so link disk a b status causes) (chained_readable (disk b) at.history (switch_entry at.history (max (time at.history) at.moment)) status at.does.did)

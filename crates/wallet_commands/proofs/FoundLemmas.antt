@@ -1,5 +1,5 @@
 -- How founding the book of a wallet ends.
-use Rattle.std.proofs.Common.{◌≡◌, ◌∙◌, inl, inr, ℕ, ◌+◌, ◌<◌, ◌≤◌, ◌^◌, List, [], Err, refl, ap, arith}
+use Rattle.std.proofs.Common.{◌≡◌, ◌∙◌, inl, inr, ℕ, ◌+◌, ◌<◌, ◌≤◌, ◌^◌, List, [], Some, Err, refl, ap, arith}
 use Rattle.std.specs.Prelude.{IsSome}
 use Rattle.mc_outside.specs.DiskView.{DiskView, LinkKeeps, OnlyRead, Ran}
 use Rattle.mc_outside.specs.LinkView.{LinkView}
@@ -65,13 +65,13 @@ unfounded_pairs link disk name moment bytes a m (faults.Unlawful d place) all ke
 unfounded_pairs link disk name moment bytes a m (faults.WrongKind d) all keeps rest by read ran = absurd by
 
 -- nothing was founded
-pub not_founded : {O : Type 0} (disk : O → DiskView) (name : List ℕ) (moment : ℕ) (bytes : List ℕ) (a m : O) (fault : HouseFault O) → LinkKeeps (disk a) (disk m) → FoundsWalletBy {D = O} disk FULL (site_of name moment) bytes (Err fault)
+pub not_founded : {O : Type 0} (disk : O → DiskView) (name : List ℕ) (moment : ℕ) (bytes : List ℕ) (a m : O) (fault : HouseFault O) → (disk a).contents ≡ Some bytes → LinkKeeps (disk a) (disk m) → FoundsWalletBy {D = O} disk FULL (site_of name moment) bytes (Err fault)
     → ReadsOnly {D = O} {A = WalletView O} disk m (Err fault) → FoundsBy (disk a) name bytes moment (fault_status fault) (disk (fault_disk fault))
-not_founded disk name moment bytes a m (faults.NotEmpty d size) keeps by read = (size, refl, by, read.contents ∙ keeps.contents)
-not_founded disk name moment bytes a m (faults.NoMemory d) keeps by read = read.contents ∙ keeps.contents
-not_founded disk name moment bytes a m (faults.Disk d) keeps by read = tt
-not_founded disk name moment bytes a m (faults.NotJournal d) keeps by read = absurd by
-not_founded disk name moment bytes a m (faults.BadRecord d place) keeps by read = absurd by
-not_founded disk name moment bytes a m (faults.BadChain d place stood computed) keeps by read = absurd by
-not_founded disk name moment bytes a m (faults.Unlawful d place) keeps by read = absurd by
-not_founded disk name moment bytes a m (faults.WrongKind d) keeps by read = absurd by
+not_founded disk name moment bytes a m (faults.NotEmpty d size) told keeps by read = (size, refl, by, read.contents ∙ keeps.contents)
+not_founded disk name moment bytes a m (faults.NoMemory d) told keeps by read = read.contents ∙ keeps.contents
+not_founded disk name moment bytes a m (faults.Disk d) told keeps by read = λ taken. (read bytes (keeps.contents ∙ told) taken).contents ∙ keeps.contents
+not_founded disk name moment bytes a m (faults.NotJournal d) told keeps by read = absurd by
+not_founded disk name moment bytes a m (faults.BadRecord d place) told keeps by read = absurd by
+not_founded disk name moment bytes a m (faults.BadChain d place stood computed) told keeps by read = absurd by
+not_founded disk name moment bytes a m (faults.Unlawful d place) told keeps by read = absurd by
+not_founded disk name moment bytes a m (faults.WrongKind d) told keeps by read = absurd by

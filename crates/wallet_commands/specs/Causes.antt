@@ -90,20 +90,38 @@ RefusedBy f before after = NextRefused f before after
 
 -- ---- why a command ends so
 
--- The disk or a link is told to have failed exactly where it did, and never both; and a refusal by what became of the
--- links. A command over a book ends in no other way than these.
+-- Once the book was opened: the disk or a link is told to have failed exactly where it did, and never both; and a refusal
+-- by what became of the links. A command ends in no other way than these.
 abbrev pub CausesBy : {O : Type 0} → (Refusal → LinkView → LinkView → Type 0) → (O → LinkView) → (O → DiskView) → O → Status → O → Type 0
 CausesBy Why link disk a ends.DiskFault b = DiskFailed link disk a b
 CausesBy Why link disk a ends.LinkFault b = LinkFailed link disk a b
 CausesBy Why link disk a ends.Done b = NoneFailed link disk a b
 CausesBy Why link disk a (ends.Did line) b = NoneFailed link disk a b
 CausesBy Why link disk a ends.NoMemory b = NoneFailed link disk a b
-CausesBy Why link disk a ends.NotJournal b = NoneFailed link disk a b
-CausesBy Why link disk a (ends.BadEntry place) b = NoneFailed link disk a b
-CausesBy Why link disk a (ends.BadChain place) b = NoneFailed link disk a b
-CausesBy Why link disk a (ends.UnlawfulEntry place) b = NoneFailed link disk a b
 CausesBy Why link disk a (ends.Refused f) b = NoneFailed link disk a b × Why f (link a) (link b)
 CausesBy Why link disk a _ b = ⊥
 
+-- A command over a book ends so too, or the book can't be read, and then no call failed and no link was taken.
+abbrev pub BookCausesBy : {O : Type 0} → (Refusal → LinkView → LinkView → Type 0) → (O → LinkView) → (O → DiskView) → O → Status → O → Type 0
+BookCausesBy Why link disk a ends.NotJournal b = NoneFailed link disk a b × (link b ≡ link a)
+BookCausesBy Why link disk a (ends.BadEntry place) b = NoneFailed link disk a b × (link b ≡ link a)
+BookCausesBy Why link disk a (ends.BadChain place) b = NoneFailed link disk a b × (link b ≡ link a)
+BookCausesBy Why link disk a (ends.UnlawfulEntry place) b = NoneFailed link disk a b × (link b ≡ link a)
+BookCausesBy Why link disk a status b = CausesBy Why link disk a status b
+
 abbrev pub WalletCauses : {O : Type 0} → (O → LinkView) → (O → DiskView) → O → Status → O → Type 0
-WalletCauses link disk a status b = CausesBy RefusedBy link disk a status b
+WalletCauses link disk a status b = BookCausesBy RefusedBy link disk a status b
+
+-- ---- of telling the chain
+
+-- the book is of another kind (52), and the links are as they were; or the Switch does not fit the journal (33)
+abbrev pub SwitchRefused : Refusal → LinkView → LinkView → Type 0
+SwitchRefused refusals.WrongKind before after = after ≡ before
+SwitchRefused (refusals.JournalFull size payload) before after = OnlyClocked before after
+SwitchRefused f before after = ⊥
+
+-- However it ends no link is taken, and so none fails; where it is done there is a line.
+abbrev pub SwitchCauses : {O : Type 0} → (O → LinkView) → (O → DiskView) → O → Status → O → Type 0
+SwitchCauses link disk a ends.LinkFault b = ⊥
+SwitchCauses link disk a ends.Done b = ⊥
+SwitchCauses link disk a status b = BookCausesBy SwitchRefused link disk a status b × OnlyClocked (link a) (link b)

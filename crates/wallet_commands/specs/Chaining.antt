@@ -17,7 +17,7 @@ use Rattle.wallet_core.specs.declared.outcome.WalletOut.TheVariants as outs
 use Rattle.wallet_core.specs.Wallet.{WalletStands}
 use Rattle.wallet_commands.specs.Books.{EncodesEither, AddPair, outcome_status}
 use Rattle.wallet_core.specs.OnDisk.{EncodesWallet, NotOpened}
-use Rattle.wallet_commands.specs.Causes.{WalletCauses}
+use Rattle.wallet_commands.specs.Causes.{SwitchCauses}
 use Rattle.wallet_commands.specs.Paying.{Wanted, Clocked}
 
 -- the entry that switches a book of this history, at a time; none where it is switched
@@ -65,4 +65,4 @@ ChainsBook link disk bytes a status b =
 
 -- What the command does. Of a book it is said where the disk tells its bytes, and of causes on every outside.
 abbrev pub Chains : {O : Type 0} → (O → LinkView) → (O → DiskView) → O → Status → O → Type 0
-Chains link disk a status b = WalletCauses link disk a status b × ((bytes : List ℕ) → (disk a).contents ≡ Some bytes → ChainsBook link disk bytes a status b)
+Chains link disk a status b = SwitchCauses link disk a status b × ((bytes : List ℕ) → (disk a).contents ≡ Some bytes → ChainsBook link disk bytes a status b)

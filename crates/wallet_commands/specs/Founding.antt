@@ -15,12 +15,13 @@ use Rattle.wallet_commands.specs.Causes.{NoneFailed, DiskFailed}
 abbrev pub site_of : List ℕ → ℕ → Entry
 site_of name moment = Site moment 2 name None
 
--- what the disk is then, by how the command ended, where it had these bytes
+-- What the disk is then, by how the command ended, where it had these bytes. Those that a book can't be founded on stay, also
+-- where the disk failed.
 abbrev pub FoundsBy : DiskView → List ℕ → List ℕ → ℕ → Status → DiskView → Type 0
 FoundsBy before name bytes moment (ends.Founded said) after = (said ≡ name) × IsFree bytes × EncodesWallet after (site_of name moment ∷ [])
 FoundsBy before name bytes moment (ends.Refused f) after = (size : ℕ) × (f ≡ refusals.NotEmpty size) × IsTaken bytes size × (after.contents ≡ before.contents)
 FoundsBy before name bytes moment ends.NoMemory after = after.contents ≡ before.contents
-FoundsBy before name bytes moment ends.DiskFault after = Unit {0}
+FoundsBy before name bytes moment ends.DiskFault after = (IsFree bytes → ⊥) → after.contents ≡ before.contents
 FoundsBy before name bytes moment _ after = ⊥
 
 -- how founding a wallet of this name ended, on an outside whose disk had these bytes

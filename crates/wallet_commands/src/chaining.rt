@@ -10,7 +10,7 @@ ghost use Rattle.wallet_core.specs.Wallet.{WalletStands};
 ghost use Rattle.wallet_core.specs.Outcomes.{outcome_disk};
 ghost use Rattle.wallet_core.specs.Switching.{KnowsChain};
 ghost use Rattle.wallet_commands.specs.Books.{Opened};
-ghost use Rattle.wallet_commands.specs.Causes.{WalletCauses};
+ghost use Rattle.wallet_commands.specs.Causes.{SwitchCauses};
 ghost use Rattle.wallet_commands.specs.Paying.{Clocked};
 ghost use Rattle.wallet_commands.specs.Chaining.{ChainsBook, EndsLine, HasChained, chained_status, switch_entry};
 
@@ -29,7 +29,7 @@ use wallet_core::{Wallet, WalletOut, open_wallet, raise_by_clock};
 /// taken.
 pub fn chain<O: Outside>(alloc: Global, out: O) -> (O, Status)
     ensures words { number_of result.1 ≡ 2 → ⊥ }
-    ensures causes { WalletCauses O.link O.disk out result.1 result.0 }
+    ensures causes { SwitchCauses O.link O.disk out result.1 result.0 }
     ensures chained { (x : Items ℕ) → (O.disk out).contents ≡ Some x
         → ChainsBook O.link O.disk x out result.1 result.0 }
 {
@@ -61,7 +61,7 @@ fn chain_by_clock<O: Outside>(mut wallet: Wallet<O>, mut line: Vec<u8>) -> (O, S
         → line.items ≡ chain_words (site_name h) }
     requires room { vec_len line + READY ≤ vec_capacity line }
     ensures words { number_of result.1 ≡ 2 → ⊥ }
-    ensures causes { WalletCauses O.link O.disk wallet.journal.disk result.1 result.0 }
+    ensures causes { SwitchCauses O.link O.disk wallet.journal.disk result.1 result.0 }
     ensures chained { (a : O) (x : Items ℕ) → Opened O.link O.disk x a wallet
         → Clocked O.link (λ h t clocked. HasChained O.link O.disk h (switch_entry h t) a clocked result.1 result.0) x a }
 {

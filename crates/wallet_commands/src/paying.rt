@@ -7,7 +7,7 @@ ghost use Rattle.mc_requests.specs.declared.limits.TheConstants.Limits.{FULL};
 ghost use Rattle.wallet_model.specs.Requests.{oldest_kept};
 ghost use Rattle.wallet_model.specs.Asks.{pend_entry};
 ghost use Rattle.wallet_commands.specs.Books.{IsKnown, Opened};
-ghost use Rattle.wallet_commands.specs.Causes.{WalletCauses};
+ghost use Rattle.wallet_commands.specs.Causes.{CausesBy, RefusedBy, WalletCauses};
 ghost use Rattle.wallet_commands.specs.Paying.{PaysBook, PaysBy, RetriesBook, RetriesBy, Clocked};
 
 use crate::lines::line_room;
@@ -86,7 +86,7 @@ fn pay_by_clock<O: Outside>(
     requires empty { line.items ≡ [] }
     requires room { vec_len line + READY ≤ vec_capacity line }
     ensures words { number_of result.1 ≡ 2 → ⊥ }
-    ensures causes { WalletCauses O.link O.disk wallet.journal.disk result.1 result.0 }
+    ensures causes { CausesBy RefusedBy O.link O.disk wallet.journal.disk result.1 result.0 }
     ensures paid { (a : O) (x : Items ℕ) → Opened O.link O.disk x a wallet
         → Clocked O.link (λ h t clocked. PaysBy O.link O.disk h t (pend_entry h t (asking_of ask.now)) a clocked result.1 result.0) x a }
 {
@@ -117,7 +117,7 @@ fn retry_by_clock<O: Outside>(
     requires empty { line.items ≡ [] }
     requires room { vec_len line + READY ≤ vec_capacity line }
     ensures words { number_of result.1 ≡ 2 → ⊥ }
-    ensures causes { WalletCauses O.link O.disk wallet.journal.disk result.1 result.0 }
+    ensures causes { CausesBy RefusedBy O.link O.disk wallet.journal.disk result.1 result.0 }
     ensures tried { (a : O) (x : Items ℕ) → Opened O.link O.disk x a wallet
         → Clocked O.link (λ h t clocked. RetriesBy O.link O.disk h t (oldest_kept h peer.now) a clocked result.1 result.0) x a }
 {

@@ -8,7 +8,7 @@ ghost use Rattle.wallet_book.specs.declared.holding.Holding.{Holding as Piece};
 ghost use Rattle.wallet_core.specs.declared.ask.Ask.TheVariants.{Get};
 ghost use Rattle.wallet_commands.specs.declared.saying.Saying.TheVariants.{Renewal};
 ghost use Rattle.wallet_commands.specs.Books.{IsKnown, Opened};
-ghost use Rattle.wallet_commands.specs.Causes.{WalletCauses};
+ghost use Rattle.wallet_commands.specs.Causes.{CausesBy, RefusedBy, WalletCauses};
 ghost use Rattle.wallet_commands.specs.Paying.{RenewsBook, PaysAs, Clocked};
 
 use crate::paying::reply_room;
@@ -66,7 +66,7 @@ fn renew_by_clock<O: Outside>(
     requires empty { line.items ≡ [] }
     requires room { vec_len line + READY ≤ vec_capacity line }
     ensures words { number_of result.1 ≡ 2 → ⊥ }
-    ensures causes { WalletCauses O.link O.disk wallet.journal.disk result.1 result.0 }
+    ensures causes { CausesBy RefusedBy O.link O.disk wallet.journal.disk result.1 result.0 }
     ensures renewed { (a : O) (x : Items ℕ) → Opened O.link O.disk x a wallet
         → Clocked O.link (λ h t clocked. PaysAs (Renewal vendor.now) O.link O.disk h t (due_entry h t vendor.now target.now before) a clocked result.1 result.0) x a }
 {

@@ -5,7 +5,7 @@ ghost use Rattle.mc_requests.specs.declared.limits.TheConstants.Limits.{FULL};
 ghost use Rattle.command_status.specs.Statuses.{number_of};
 ghost use Rattle.wallet_core.specs.Outcomes.{outcome_disk};
 ghost use Rattle.wallet_commands.specs.Books.{Opened};
-ghost use Rattle.wallet_commands.specs.Causes.{WalletCauses};
+ghost use Rattle.wallet_commands.specs.Causes.{CausesBy, RefusedBy, WalletCauses};
 ghost use Rattle.wallet_commands.specs.Taking.{TakesBook, Unread, Took, taken_status};
 
 use crate::lines::{line_room, put_taken};
@@ -39,7 +39,7 @@ pub fn take<O: Outside>(alloc: Global, out: O) -> (O, Status)
 fn take_input<O: Outside>(alloc: Global, mut wallet: Wallet<O>) -> (O, Status)
     requires { wallet.book.limits ≡ FULL }
     ensures words { number_of result.1 ≡ 2 → ⊥ }
-    ensures causes { WalletCauses O.link O.disk wallet.journal.disk result.1 result.0 }
+    ensures causes { CausesBy RefusedBy O.link O.disk wallet.journal.disk result.1 result.0 }
     ensures took { (a : O) (x : Items ℕ) → Opened O.link O.disk x a wallet
         → Unread O.link O.disk x a result.1 result.0 ⊎ Took O.link O.disk x a result.1 result.0 }
 {

@@ -81,4 +81,4 @@ returns-in-Err-clause-founded g c x told =
           (subst (λ (f : Entry). Ran (g.O.Disk.disk m) (g.O.Disk.disk b) (FoundNoOutput (g.O.Disk.disk m) f)) same_site (c.in-Err.ensures.ran x at));
     } in
     rw (c.not_opened.ensures.disk, c.not_opened.ensures.status)
-    (c.now-moment.result, found, not_founded g.O.Disk.disk g.T.Trade.trade kind c.args.founder.now c.now-moment.result x c.args.out m c.in-Err.fault keeps by c.in-Err.ensures.read)
+    (c.now-moment.result, found, not_founded g.O.Disk.disk g.T.Trade.trade kind c.args.founder.now c.now-moment.result x c.args.out m c.in-Err.fault told keeps by c.in-Err.ensures.read)

@@ -4,7 +4,7 @@ use Rattle.said_lines.specs.Lines.{chain_words}
 use Rattle.wallet_core.specs.WalletView.{WalletView}
 use Rattle.wallet_commands.specs.Books.{Opened}
 use Rattle.wallet_core.specs.OnDisk.{Untouched}
-use Rattle.wallet_commands.proofs.CauseLemmas.{causes_opened, none_on_disk, opening_causes}
+use Rattle.wallet_commands.proofs.CauseLemmas.{none_on_disk, switch_opened, switch_unopened, switch_wanted}
 use Rattle.wallet_core.proofs.DiskLemmas.{on_disk, not_opened}
 use Rattle.wallet_commands.proofs.chaining.chain.Goals as goal
 
@@ -14,7 +14,7 @@ chain_by_clock-requires-clause-begun g c h st = c.in-Ok-begun_line.ensures.items
 pub returns-in-Err-clause-causes : goal.returns-in-Err-clause-causes
 returns-in-Err-clause-causes g c =
     rw (c.not_opened.ensures.disk, c.not_opened.ensures.status)
-    (opening_causes (WalletView g.row.O.Denot) g.O.Link.link g.O.Disk.disk c.args.out c.in-Err.fault c.in-Err.ensures.fault (g.met.O.Outside.disk_keeps _ _ c.in-Err.ensures.moved))
+    (switch_unopened (WalletView g.row.O.Denot) g.O.Link.link g.O.Disk.disk c.args.out c.in-Err.fault c.in-Err.ensures.fault (g.met.O.Outside.disk_keeps _ _ c.in-Err.ensures.moved))
 
 pub returns-in-Err-clause-chained : goal.returns-in-Err-clause-chained
 returns-in-Err-clause-chained g c x told =
@@ -23,7 +23,7 @@ returns-in-Err-clause-chained g c x told =
 
 pub returns-in-Ok-begun_line-clause-causes : goal.returns-in-Ok-begun_line-clause-causes
 returns-in-Ok-begun_line-clause-causes g c =
-    causes_opened g.O.Link.link g.O.Disk.disk c.args.out c.in-Ok.wallet.journal.disk c.chain_by_clock.result.0 c.chain_by_clock.result.1
+    switch_opened g.O.Link.link g.O.Disk.disk c.args.out c.in-Ok.wallet.journal.disk c.chain_by_clock.result.0 c.chain_by_clock.result.1
     (none_on_disk g.O.Link.link g.O.Disk.disk c.args.out c.in-Ok.wallet.journal.disk c.in-Ok.ensures.fault (g.met.O.Outside.disk_keeps _ _ c.in-Ok.ensures.moved)) (g.met.O.Outside.disk_keeps _ _ c.in-Ok.ensures.moved) c.chain_by_clock.ensures.causes
 
 pub returns-in-Ok-begun_line-clause-chained : goal.returns-in-Ok-begun_line-clause-chained
@@ -34,7 +34,7 @@ returns-in-Ok-begun_line-clause-chained g c x told =
 
 pub returns-in-Err-begun_line-clause-causes : goal.returns-in-Err-begun_line-clause-causes
 returns-in-Err-begun_line-clause-causes g c =
-    rw c.close.ensures (none_on_disk g.O.Link.link g.O.Disk.disk c.args.out c.in-Ok.wallet.journal.disk c.in-Ok.ensures.fault (g.met.O.Outside.disk_keeps _ _ c.in-Ok.ensures.moved))
+    rw c.close.ensures (switch_wanted g.O.Link.link g.O.Disk.disk c.args.out c.in-Ok.wallet.journal.disk c.in-Ok.ensures.fault (g.met.O.Outside.disk_keeps _ _ c.in-Ok.ensures.moved))
 
 pub returns-in-Err-begun_line-clause-chained : goal.returns-in-Err-begun_line-clause-chained
 returns-in-Err-begun_line-clause-chained g c x told =

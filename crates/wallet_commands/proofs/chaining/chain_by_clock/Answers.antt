@@ -1,11 +1,8 @@
-use Rattle.std.proofs.Common.{◌≡◌, ◌∙◌, sym, ap, subst}
+use Rattle.std.proofs.Common.{◌∙◌, ap}
 use Rattle.mc_outside.specs.LinkView.{LinkView}
-use Rattle.mc_requests.specs.declared.refusal.Refusal.{Refusal}
-use Rattle.wallet_core.specs.Answers.{IsFull}
 use Rattle.wallet_core.specs.Outcomes.{outcome_disk}
-use Rattle.wallet_commands.specs.Causes.{OnlyClocked, RefusedBy}
 use Rattle.wallet_commands.specs.Chaining.{HasChained, chained_status, switch_entry}
-use Rattle.wallet_commands.proofs.CauseLemmas.{causes_from, none_linked, full_so, outcome_causes}
+use Rattle.wallet_commands.proofs.CauseLemmas.{none_linked, switch_causes}
 use Rattle.wallet_commands.proofs.PayLemmas.{AtClock, clocked_by}
 use Rattle.wallet_commands.proofs.ChainLemmas.{has_chained}
 use Rattle.wallet_commands.proofs.chaining.chain_by_clock.Goals as goal
@@ -14,13 +11,11 @@ pub returns-clause-causes : goal.returns-clause-causes
 returns-clause-causes g c =
     let w = c.args.wallet in
     let y = c.raise_by_clock-reading.new.wallet in
-    let b = outcome_disk c.switch-switched.result in
     let line = c.end_by_wallet.new.line.items in
     rw (c.chained.ensures.out, c.chained.ensures.status)
-    (causes_from (λ (f : Refusal) (u v : LinkView). IsFull f × (v ≡ u)) RefusedBy g.O.Link.link g.O.Disk.disk w.journal.disk y.journal.disk b (chained_status line c.switch-switched.result)
+    (switch_causes line g.O.Link.link g.O.Disk.disk w.journal.disk y.journal.disk c.switch-switched.result
     (none_linked g.O.Link.link g.O.Disk.disk w.journal.disk y.journal.disk (g.met.O.Outside.link_keeps _ _ c.raise_by_clock-reading.ensures.moved) (ap (λ (v : LinkView). v.faults) c.raise_by_clock-reading.ensures.rest))
-    (λ f why. full_so f (g.O.Link.link w.journal.disk) (g.O.Link.link b) (subst (λ (v : LinkView). OnlyClocked (g.O.Link.link w.journal.disk) v) (sym why.1) c.raise_by_clock-reading.ensures.rest) why.0)
-    (outcome_causes IsFull (λ a. line) g.O.Link.link g.O.Disk.disk y.journal.disk c.switch-switched.result c.switch-switched.ensures.back.counts (g.met.O.Outside.disk_keeps _ _ c.switch-switched.ensures.back.moved') c.switch-switched.ensures.refused))
+    c.raise_by_clock-reading.ensures.rest c.switch-switched.ensures.back.counts (g.met.O.Outside.disk_keeps _ _ c.switch-switched.ensures.back.moved') c.switch-switched.ensures.refused)
 
 pub returns-clause-chained : goal.returns-clause-chained
 returns-clause-chained g c a x at =

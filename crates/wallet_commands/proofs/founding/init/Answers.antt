@@ -59,4 +59,4 @@ returns-in-Err-clause-founded g c x told =
       pairs = unfounded_pairs g.O.Link.link g.O.Disk.disk c.args.name.now c.now-moment.result x c.args.out m c.in-Err.fault g.met.O.Outside.sent_aside keeps c.now-moment.ensures.rest (c.in-Err.ensures.exact x at) c.in-Err.ensures.read (c.in-Err.ensures.ran x at);
     } in
     rw (c.not_opened.ensures.disk, c.not_opened.ensures.status)
-    (c.now-moment.result, found, not_founded g.O.Disk.disk c.args.name.now c.now-moment.result x c.args.out m c.in-Err.fault keeps (c.in-Err.ensures.exact x at) c.in-Err.ensures.read)
+    (c.now-moment.result, found, not_founded g.O.Disk.disk c.args.name.now c.now-moment.result x c.args.out m c.in-Err.fault told keeps (c.in-Err.ensures.exact x at) c.in-Err.ensures.read)
