@@ -86,7 +86,8 @@ impl<D: Disk> Replay<D> {
     /// with which the entry, its chain and its closed gate would go past 2^40 bytes, each at its first byte; before
     /// a chain that is cut or another, and before one that has yet to be found, in a payload the place that
     /// [`read_record`] gives. `BadChain` comes where 32 whole bytes of a chain are another than that of the entries.
-    /// `Disk` comes only where the disk failed. After `None` or a fault the same answer comes again.
+    /// `Disk` comes only where the disk failed. After `None` or a fault the same answer comes again. After a fault of
+    /// [`Replay::record`] this call would go on behind the malformed payload, and nothing is promised of it.
     pub fn next_record(&mut self) -> Result<Option<u64>, ReplayFault>
         ensures { Advanced D.disk D.disk_moved self.old result self.new }
     {
@@ -106,8 +107,8 @@ impl<D: Disk> Replay<D> {
 
     /// The entry that was found last, which lies in the buffer up to the next call of
     /// [`Replay::next_record`]. Its values are in the ranges of its kind. `BadRecord` comes exactly where its payload is
-    /// malformed, with the place that [`read_record`] gives; the bytes then encode no entries, and nothing is to be read
-    /// behind it.
+    /// malformed, with the place that [`read_record`] gives, and comes again as long as nothing else is looked for; the bytes
+    /// then encode no entries, and nothing is to be read behind it.
     pub fn record(&self) -> Result<Record<'_>, ReplayFault>
         ensures read { IfOk result (λ r. Fits (entry r) × (self.now.last ≡ payload (entry r))) }
         ensures fault { IfErr result (IsMalformed self.now) }
