@@ -104,9 +104,11 @@ def parameters():
              for variant, meaning in re.findall(r'Parameter::(\w+) => (?:\{\s*)?(".*?")', meanings)}
     if set(names) != set(shapes) or set(names) != set(means):
         fail("names, shapes and meanings are not of the same parameters")
-    forms = {"One": "%s", "Places": "%s..", "Setting": "[--%s VALUE]", "Flag": "[--%s]"}
+    values = dict(re.findall(r'Parameter::(\w+) => "(\w+)",', part(text, "fn value_name(self)", "\n    }\n", "parameter.rt")))
+    forms = {"One": "{}", "Places": "{}..", "Setting": "[--{} {}]", "Flag": "[--{}]"}
     options = {"Setting": "--", "Flag": "--"}
-    return {variant: (options.get(shapes[variant], "") + name, forms[shapes[variant]] % name, means[variant]) for variant, name in names.items()}
+    return {variant: (options.get(shapes[variant], "") + name, forms[shapes[variant]].format(name, values.get(variant, "VALUE")), means[variant])
+            for variant, name in names.items()}
 
 
 class Command:

@@ -26,7 +26,8 @@ fn a_word_of_no_value_is_told_with_the_values(rt: HostRuntime) -> Result<(), Fai
         price.as_str(),
         "millicent: 0: wrong word\n\
          millicent: PRICE is a number from 1 to 1099511627776\n\
-         usage: millicent vendor price BOOK TARGET PRICE\n"
+         usage: millicent vendor price BOOK TARGET PRICE\n\
+         see millicent --help\n"
     );
     let kind = told_of(
         rt.alloc(),
@@ -43,14 +44,16 @@ fn a_word_of_no_value_is_told_with_the_values(rt: HostRuntime) -> Result<(), Fai
     assert_eq!(rt;
         kind.as_str(),
         "millicent: 3: wrong word\n\
-         millicent: --kind is a number from 0 to 2\n\
-         usage: millicent vendor goods BOOK TARGET PRICE [--kind VALUE]\n"
+         millicent: --kind is 0 (bytes), 1 (text) or 2 (HTML)\n\
+         usage: millicent vendor goods BOOK TARGET PRICE [--kind K]\n\
+         see millicent --help\n"
     );
     let more = told_of(rt.alloc(), &["wallet", "list", "a.book", "b.book"])?;
     assert_eq!(rt;
         more.as_str(),
         "millicent: b.book: wrong word\n\
-         usage: millicent wallet list BOOK\n"
+         usage: millicent wallet list BOOK\n\
+         see millicent --help\n"
     );
     Ok(())
 }
