@@ -57,3 +57,34 @@ fn a_word_of_no_value_is_told_with_the_values(rt: HostRuntime) -> Result<(), Fai
     );
     Ok(())
 }
+
+#[test]
+fn a_missing_word_and_a_missing_port_are_told(rt: HostRuntime) -> Result<(), Fail> {
+    let port = told_of(
+        rt.alloc(),
+        &["wallet", "retry", "a.book", "bank", "127.0.0.1"],
+    )?;
+    assert_eq!(rt;
+        port.as_str(),
+        "millicent: 127.0.0.1: wrong word\n\
+         millicent: CONNECT is a host or address, a colon and a port, as 127.0.0.1:8081\n\
+         usage: millicent wallet retry BOOK PEER CONNECT\n\
+         see millicent --help\n"
+    );
+    let missing = told_of(rt.alloc(), &["wallet", "retry", "a.book", "bank"])?;
+    assert_eq!(rt;
+        missing.as_str(),
+        "millicent: CONNECT is missing: where the site is reached\n\
+         millicent: CONNECT is a host or address, a colon and a port, as 127.0.0.1:8081\n\
+         usage: millicent wallet retry BOOK PEER CONNECT\n\
+         see millicent --help\n"
+    );
+    let role = told_of(rt.alloc(), &["audit", "list"])?;
+    assert_eq!(rt;
+        role.as_str(),
+        "millicent: list: wrong word\n\
+         usage: millicent audit report|chain|tree ..\n\
+         see millicent --help\n"
+    );
+    Ok(())
+}
