@@ -353,7 +353,7 @@ def completion():
         if "BOOK" in names[1:]:
             fail("%s %s: its book is not the first word" % (command.role, command.name))
         options = [name for name, _, _ in command.words if name.startswith("--")]
-        settings += [name for name, shown, _ in command.words if shown.endswith("VALUE]") and name not in settings]
+        settings += [name for name, shown, _ in command.words if " " in shown and name not in settings]
         books = 9999 if "BOOK.." in command.usage() else int("BOOK" in names)
         said = ["options='%s'" % " ".join(options)] * bool(options) + ["books=%d" % books] * bool(books)
         if said:
@@ -365,16 +365,21 @@ def completion():
     return text.replace("@OPTIONS@", "\n".join(rows)).replace("@SETTINGS@", " | ".join(settings))
 
 
+def unnamed(line):
+    """A line of words, in which the values of options have one name."""
+    return re.sub(r"(--\w+) \w+\]", r"\1 VALUE]", line)
+
+
 def readme():
     """What the table of commands in README.md has other than the program: lines of the words that lack, and of those that are no command's."""
     table = part(source("README.md"), "\n## The commands\n", "\n## ", "README.md")
     found = []
     for cell in re.findall(r"^\| (`(?:vendor|broker|wallet|audit) .*?) \|", table, re.M):
         first, *others = re.findall(r"`([^`]+)`", cell)
-        first = re.sub(r"(--\w+) [A-Z]+\]", r"\1 VALUE]", first)
+        first = unnamed(first)
         found.append(first)
         found += [role + first[first.index(" "):] for role in others]
-    wanted = [command.usage().removeprefix("millicent ") for command in commands()]
+    wanted = [unnamed(command.usage().removeprefix("millicent ")) for command in commands()]
     for line in wanted:
         if line not in found:
             yield "README.md: its table of commands lacks `%s`" % line
