@@ -5,12 +5,12 @@ use diagnostics::tell_fault;
 use std::io::Write;
 
 /// Whether the words ask for a page of help, or for the version.
-pub(crate) fn asks_for_help(words: &[String]) -> bool {
+pub(crate) fn is_asked(words: &[String]) -> bool {
     page_of(words).is_some()
 }
 
 /// Prints the page that the words ask for, and answers the status.
-pub(crate) fn print_help(rt: &HostRuntime, words: &[String]) -> u8 {
+pub(crate) fn print(rt: &HostRuntime, words: &[String]) -> u8 {
     let Some(page) = page_of(words) else {
         return 0;
     };

@@ -7,7 +7,6 @@ ghost use Rattle.std.specs.Prelude.{◌≡◌};
 mod help;
 mod links;
 
-use crate::help::{asks_for_help, print_help};
 use crate::links::{Announced, Links, Listening};
 use diagnostics::{
     Survey, survey, tell_ahead, tell_bad_line, tell_behind, tell_clear, tell_fault, tell_no_bytes,
@@ -26,7 +25,7 @@ use std::{env, fs, io};
 fn main(rt: HostRuntime) -> ExitCode {
     let alloc = rt.alloc();
     ExitCode::from(match words(alloc, &rt) {
-        Ok(words) if asks_for_help(&words) => print_help(&rt, &words),
+        Ok(words) if help::is_asked(&words) => help::print(&rt, &words),
         Ok(words) => match places(alloc, &words) {
             Ok(places) => {
                 let status = start(&rt, &words, &places);
