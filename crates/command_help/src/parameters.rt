@@ -93,9 +93,9 @@ impl fmt::Display for Form {
 fn words_of(parameter: Parameter) -> &'static str {
     match (parameter, parameter.shape()) {
         (Parameter::Listen, _) => {
-            "an address and a port, or the path of a Unix socket, which begins with /"
+            "a host or address, a colon and a port, or the path of a Unix socket, which begins with /"
         }
-        (Parameter::Connect, _) => "an address and a port",
+        (Parameter::Connect, _) => "a host or address, a colon and a port, as 127.0.0.1:8081",
         (_, Shape::One(Sort::Name)) => {
             "1 to 63 of a to z, 0 to 9, - and ., the first a letter or a digit"
         }
