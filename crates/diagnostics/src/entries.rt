@@ -124,7 +124,7 @@ impl Survey {
 }
 
 /// Reads a book's entries; None where memory is refused.
-pub fn survey<F: OpenFile + FileExt>(alloc: Global, book: &Book<F>) -> Option<Survey> {
+pub fn survey_of<F: OpenFile + FileExt>(alloc: Global, book: &Book<F>) -> Option<Survey> {
     let mut entries = Entries::of(alloc, book).ok()?;
     let mut survey = Survey {
         name: None,

@@ -15,7 +15,7 @@ mod wrong_words;
 
 pub use clock_gap::{tell_ahead, tell_behind};
 pub use endings::{tell_clear, tell_fault, tell_no_bytes};
-pub use entries::{Survey, survey};
+pub use entries::{Survey, survey_of};
 pub use input_faults::tell_bad_line;
 pub use pending_draws::tell_pending_draws;
 pub use settling::tell_reply;

@@ -9,8 +9,8 @@ mod links;
 
 use crate::links::{Announced, Links, Listening};
 use diagnostics::{
-    Survey, survey, tell_ahead, tell_bad_line, tell_behind, tell_clear, tell_fault, tell_no_bytes,
-    tell_pending_draws, tell_reply, tell_usage, word,
+    Survey, survey_of, tell_ahead, tell_bad_line, tell_behind, tell_clear, tell_fault,
+    tell_no_bytes, tell_pending_draws, tell_reply, tell_usage, word,
 };
 use mc_base::NoMemory;
 use mc_door::{Listener, call, call_each, listen};
@@ -282,7 +282,7 @@ fn tell_before(task: &Task<'_>, book: &Shown<'_>, others: &[Shown<'_>]) -> Optio
 
 /// What a book has, where there is memory to read it.
 fn surveyed(task: &Task<'_>, book: &Shown<'_>) -> Option<Survey> {
-    let survey = survey(task.rt.alloc(), book);
+    let survey = survey_of(task.rt.alloc(), book);
     task.progress.wipe();
     survey
 }
