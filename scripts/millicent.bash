@@ -67,7 +67,7 @@ _millicent_words() {
         word=${COMP_WORDS[place]}
         case $word in
             =) skip=1 ;;
-            ) skip=1 ;;
+            --keep | --kind) skip=1 ;;
             --*) skip=0 ;;
             *)
                 [ "$skip" -eq 1 ] || before=$((before + 1))
