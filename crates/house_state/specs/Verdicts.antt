@@ -49,15 +49,6 @@ judged_of (verdicts.Refused refusal) = IsRefused refusal
 judged_of (verdicts.Again number) = IsAgain number
 judged_of verdicts.Take = IsTaken
 
--- the number of the entry whose reply comes again
-abbrev pub again_in : Judged → Option ℕ
-again_in (IsRefused refusal) = None
-again_in (IsAgain number) = Some number
-again_in IsTaken = None
-
-abbrev pub repeat_of : answers.Answer → Option ℕ
-repeat_of answer = again_in (judged answer)
-
 -- ---- entries
 
 -- the entry of an authorization
