@@ -1,5 +1,6 @@
 //! What is told of a clock and a book whose times lie apart.
 
+use crate::spans::span;
 use httpdate::HttpDate;
 
 /// A book may be ahead of the clock by so many seconds before it is told, as where the clock was set right.
@@ -31,18 +32,5 @@ pub fn tell_behind(rt: &impl Eprint, path: &str, latest: u64, now: u64) {
         let _ = eprintln!(rt;
             "millicent: {path}: the clock is {count} {unit} ahead of its latest moment, {date}"
         );
-    }
-}
-
-/// A span of seconds in the greatest unit of which it has two, rounded down.
-fn span(seconds: u64) -> (u64, &'static str) {
-    if seconds >= 2 * 86_400 {
-        (seconds / 86_400, "days")
-    } else if seconds >= 2 * 3600 {
-        (seconds / 3600, "hours")
-    } else if seconds >= 2 * 60 {
-        (seconds / 60, "minutes")
-    } else {
-        (seconds, "seconds")
     }
 }

@@ -1,8 +1,5 @@
-//! What is told on standard error when a command has ended: why the disk or the link failed, and that goods are empty.
+//! What is told on standard error of links: why one failed, and that scrip goes in the clear.
 
-use crate::texts::shown;
-use mc_records::Record;
-use mc_site::Passed;
 use std::io;
 use std::io::ErrorKind;
 use std::net::SocketAddr;
@@ -19,22 +16,6 @@ pub fn tell_fault(rt: &impl Eprint, what: &str, fault: Option<io::Error>) {
         _ => {
             let _ = eprintln!(rt; "millicent: {what}: {error}");
         }
-    }
-}
-
-/// Tells that the goods that were entered have no bytes, where they are so.
-pub fn tell_no_bytes(rt: &impl Eprint, passed: &Passed) {
-    if let Some(
-        Record::Goods {
-            target,
-            contents,
-            ..
-        },
-    ) = passed.record()
-        && contents.is_empty()
-    {
-        let target = shown(target);
-        let _ = eprintln!(rt; "millicent: {target}: 0 bytes");
     }
 }
 

@@ -1,25 +1,49 @@
 //! What is told of the reply to a wallet's request: the price, the refusal, and what of it was not taken.
 
-use crate::texts::{before_space, shown};
-use mc_records::Record;
-use mc_site::Passed;
+use crate::entries::Entries;
+use crate::refusals::tell_refusal;
+use crate::texts::{before_space, shown, word};
+use mc_records::{Record, read_record};
+use mc_site::{Book, Passed};
 use reply_reader::ReplyRef;
 use scrip_form::read_scrip;
+use std::alloc::Global;
+use std::fs::OpenFile;
+use std::os::unix::fs::FileExt;
 
-/// Tells what the reply of a peer said, by the status with which the command ended, where one was sent to it.
-pub fn tell_reply(rt: &impl Eprint, peer: &str, status: u8, passed: &Passed) {
+/// Tells what the reply of a peer said to the wallet's command with these words, by the status with which it ended, where a
+/// request was sent.
+pub fn tell_reply<F: OpenFile + FileExt>(
+    rt: &impl Eprint,
+    alloc: Global,
+    words: &[String],
+    status: u8,
+    book: &Book<F>,
+    passed: &Passed,
+) {
+    let peer = word(words, 3);
     match status {
         // Settled, though the line about it may not have been said.
-        0 | 6 => tell_paid(rt, peer, passed),
-        7 => tell_refused(rt, peer, passed),
+        0 | 6 => tell_paid(rt, alloc, peer, book, passed),
+        7 => {
+            tell_refused(rt, peer, passed);
+            tell_refusal(rt, alloc, words, book, passed);
+        }
         _ => {}
     }
 }
 
-/// Tells the price of what was paid, and what of the reply was not taken.
-fn tell_paid(rt: &impl Eprint, peer: &str, passed: &Passed) {
+/// Tells the price of what was paid, or what was drawn or put back, and what of the reply was not taken.
+fn tell_paid<F: OpenFile + FileExt>(
+    rt: &impl Eprint,
+    alloc: Global,
+    peer: &str,
+    book: &Book<F>,
+    passed: &Passed,
+) {
     if let Some(
         Record::Done {
+            number,
             price,
             change,
             got,
@@ -27,8 +51,46 @@ fn tell_paid(rt: &impl Eprint, peer: &str, passed: &Passed) {
         },
     ) = passed.record()
     {
-        let _ = eprintln!(rt; "millicent: {peer}: price {price}");
+        let what = what_was_done(alloc, book, number, change.is_some());
+        let _ = eprintln!(rt; "millicent: {peer}: {what} {price}");
         tell_untaken(rt, passed, change.is_some(), got.is_some());
+    }
+}
+
+/// What the sum is in the reply to the request of this entry: a price, what was drawn, or what was put back into an account.
+fn what_was_done<F: OpenFile + FileExt>(
+    alloc: Global,
+    book: &Book<F>,
+    number: u64,
+    has_change: bool,
+) -> &'static str {
+    let Ok(mut entries) = Entries::of(alloc, book) else {
+        return "price";
+    };
+    for at in 0..u64::MAX {
+        let Some(payload) = entries.next_payload() else {
+            break;
+        };
+        if at == number {
+            return what_it_asks(payload, has_change);
+        }
+    }
+    "price"
+}
+
+/// What the sum is in the reply to the request with this payload. A piece that is put back is so as a whole.
+fn what_it_asks(payload: &[u8], has_change: bool) -> &'static str {
+    match read_record(payload) {
+        Ok(Record::Pend { scrip, target, .. }) => {
+            if scrip.is_none() {
+                "drawn"
+            } else if !has_change && target.starts_with(b"/credit/") {
+                "put back"
+            } else {
+                "price"
+            }
+        }
+        _ => "price",
     }
 }
 
@@ -39,8 +101,8 @@ fn tell_refused(rt: &impl Eprint, peer: &str, passed: &Passed) {
         return;
     };
     match passed.record() {
-        Some(Record::Refused { .. }) => tell_refusal(rt, peer, "refused", &reply),
-        _ => tell_refusal(rt, peer, "a reply that is not proved says", &reply),
+        Some(Record::Refused { .. }) => tell_site_words(rt, peer, "refused", &reply),
+        _ => tell_site_words(rt, peer, "a reply that is not proved says", &reply),
     }
 }
 
@@ -83,7 +145,7 @@ fn tell_known(rt: &impl Eprint, what: &str, text: &[u8]) {
 }
 
 /// Tells the refusal of a reply, with its kept values, and the price where it names one.
-fn tell_refusal(rt: &impl Eprint, peer: &str, how: &str, reply: &ReplyRef<'_>) {
+fn tell_site_words(rt: &impl Eprint, peer: &str, how: &str, reply: &ReplyRef<'_>) {
     let Some(refusal) = reply.refusal else {
         return;
     };

@@ -1,5 +1,7 @@
 //! Parts of texts that are shown on standard error.
 
+use command_table::{MOST_NUMBER, number_from};
+
 /// The most bytes of a text that are shown.
 const MOST_SHOWN: usize = 120;
 
@@ -34,4 +36,9 @@ pub fn word(words: &[String], number: usize) -> &str {
         left -= 1;
     }
     ""
+}
+
+/// The number with which a text begins, up to a space.
+pub(crate) fn leading_number(text: &str) -> Option<u64> {
+    number_from(0, MOST_NUMBER, before_space(text.as_bytes()))
 }

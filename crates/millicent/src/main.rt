@@ -9,12 +9,13 @@ mod links;
 
 use crate::links::{Announced, Links, Listening};
 use diagnostics::{
-    Survey, survey_of, tell_ahead, tell_bad_line, tell_behind, tell_clear, tell_fault,
-    tell_no_bytes, tell_pending_draws, tell_reply, tell_usage, word,
+    Survey, survey_of, tell_ahead, tell_audit, tell_behind, tell_clear, tell_disk_fault,
+    tell_entered, tell_fault, tell_other_role, tell_pending_draws, tell_refusal, tell_reply,
+    tell_unopened, tell_usage, word,
 };
 use mc_base::NoMemory;
 use mc_door::{Listener, call, call_each, listen};
-use mc_site::{Book, Metered, Passed, Progress, Site, Streams, Watched, Wiping, cause_of, reading};
+use mc_site::{Book, Metered, Passed, Progress, Site, Streams, Watched, Wiping, reading};
 use mc_top::{Places, places, run, run_proxy};
 use std::alloc::{AllocError, Global};
 use std::fs::File;
@@ -132,7 +133,8 @@ fn ask(task: &Task<'_>, book: Shown<'_>, others: Vec<Shown<'_>>, address: &str) 
         tell_clear(rt, caller.peer());
     }
     if let Some(passed) = ran.out.passed() {
-        tell_reply(rt, word(task.words, 3), ran.status, passed);
+        let book = ran.out.book();
+        tell_reply(rt, rt.alloc(), task.words, ran.status, book, passed);
     }
     ran.status
 }
@@ -201,6 +203,7 @@ fn serve(
     tell_fault(rt, OUTPUT, ran.out.said_fault());
     let book = ran.out.finish();
     tell_faults(task, ran.status, &book, link);
+    tell_role(task, ran.status, &book);
     ran.status
 }
 
@@ -219,6 +222,7 @@ fn pay(task: &Task<'_>, book: Shown<'_>, survey: Option<Survey>, address: &str, 
     tell_fault(rt, OUTPUT, out.said_fault());
     let book = out.finish();
     tell_faults(task, status, &book, link);
+    tell_role(task, status, &book);
     tell_fault(rt, peer, up.link_fault());
     status
 }
@@ -240,6 +244,10 @@ fn work(task: &Task<'_>, book: Shown<'_>, others: Vec<Shown<'_>>) -> u8 {
     tell_faults(task, ran.status, ran.out.book(), link);
     tell_fault(rt, OUTPUT, ran.out.said_fault());
     tell_other_faults(task, ran.status, &ran.books);
+    if let Some(passed) = ran.out.passed() {
+        let paths = task.places.books.slice();
+        tell_audit(rt, rt.alloc(), task.words, paths, &ran.books, passed);
+    }
     tell_work(rt, task.words, ran.status, ran.out.book(), ran.out.passed());
     if let Some(path) = &task.places.site
         && task.places.founds
@@ -323,7 +331,16 @@ fn tell_disk(rt: &HostRuntime, path: &str, book: &Shown<'_>) {
         Some(end) => {
             let _ = eprintln!(rt; "millicent: {path}: {end}");
         }
-        None => tell_fault(rt, path, book.fault()),
+        None => tell_disk_fault(rt, path, book.fault()),
+    }
+}
+
+/// Tells whose the book is that was to be served, where it was refused: it is of another role.
+fn tell_role(task: &Task<'_>, status: u8, book: &Shown<'_>) {
+    if status == 7
+        && let Some(path) = &task.places.site
+    {
+        tell_other_role(task.rt, task.rt.alloc(), text(path.slice()), book);
     }
 }
 
@@ -339,10 +356,10 @@ fn tell_work(
         return;
     };
     if status == 7 {
-        tell_bad_line(rt, words, passed);
+        tell_refusal(rt, rt.alloc(), words, book, passed);
     }
     if status == 0 {
-        tell_no_bytes(rt, passed);
+        tell_entered(rt, passed);
         if word(words, 0) == "wallet" && word(words, 1) == "list" {
             tell_pending_draws(rt, rt.alloc(), book);
         }
@@ -365,7 +382,7 @@ fn open_all<'a>(task: &Task<'a>) -> Result<Vec<Shown<'a>>, AllocError> {
     let mut books = Vec::new(task.rt.alloc());
     for path in task.places.books.slice() {
         let path = text(path.slice());
-        let book = or_none(task.rt, path, Book::open_to_read(task.rt, path));
+        let book = or_none(task, path, Book::open_to_read(task.rt, path));
         books.push(book.metered(path, task.progress))?;
     }
     Ok(books)
@@ -377,7 +394,7 @@ fn open_book<'a>(task: &Task<'a>) -> Shown<'a> {
         Some(path) => {
             let path = text(path.slice());
             let opened = Book::open(task.rt, path, task.places.founds);
-            (path, or_none(task.rt, path, opened))
+            (path, or_none(task, path, opened))
         }
         None => ("", Book::none()),
     };
@@ -385,12 +402,11 @@ fn open_book<'a>(task: &Task<'a>) -> Shown<'a> {
 }
 
 /// The book that was opened at this path. Where it could not be, standard error says why, and it is a book of none.
-fn or_none(rt: &HostRuntime, path: &str, opened: io::Result<Book<File>>) -> Book<File> {
+fn or_none(task: &Task<'_>, path: &str, opened: io::Result<Book<File>>) -> Book<File> {
     match opened {
         Ok(book) => book,
         Err(error) => {
-            let cause = cause_of(error.kind());
-            let _ = eprintln!(rt; "millicent: {path}: {cause}");
+            tell_unopened(task.rt, task.words, path, task.places.founds, &error);
             Book::none()
         }
     }
