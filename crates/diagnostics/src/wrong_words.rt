@@ -1,5 +1,6 @@
 //! What is told of words that are of no command.
 
+use command_help::meaning_of;
 use command_table::{Parameter, Shape, Sort, unfit_parameter, usage_of};
 use mc_words::{WrongWord, wrong_word};
 use std::alloc::{AllocError, Global};
@@ -79,7 +80,7 @@ fn tell_missing(rt: &impl Eprint, alloc: Global, words: &[String]) {
             let _ = eprintln!(rt; "millicent: --{name} has no value");
         }
         _ => {
-            let meaning = meaning(parameter);
+            let meaning = meaning_of(parameter);
             let _ = eprintln!(rt; "millicent: {name} is missing: {meaning}");
         }
     }
@@ -94,44 +95,6 @@ fn with_one_more(alloc: Global, words: &[String]) -> Result<Vec<String>, AllocEr
     }
     others.push(String::new(alloc))?;
     Ok(others)
-}
-
-/// What a parameter is for.
-fn meaning(parameter: Parameter) -> &'static str {
-    match parameter {
-        Parameter::Book => "the file of the book",
-        Parameter::Books => "the files of the books",
-        Parameter::Name => "the name of the site or the wallet",
-        Parameter::Period => "how many seconds a series is issued",
-        Parameter::Life => "how many seconds it stays good after that",
-        Parameter::Scrip => "the secrets of certificates",
-        Parameter::Customer => "the secrets of customers",
-        Parameter::Fee => "what a sale of scrip costs, beside the scrip's value",
-        Parameter::Target => "which page, by its path",
-        Parameter::Price => "what the page costs",
-        Parameter::Issuer | Parameter::AnyIssuer => "the number of an issuer",
-        Parameter::Epoch => "the epoch of a series",
-        Parameter::Pieces => "how many pieces",
-        Parameter::Heads => "how many requests",
-        Parameter::Value => "what each piece is worth",
-        Parameter::Reference => "a name of its own for each time, under which it counts once",
-        Parameter::Listen => "where connections come",
-        Parameter::Links => "after how many connections it ends",
-        Parameter::Secret => "the secret of the shop",
-        Parameter::Contents => "what is sold",
-        Parameter::Account => "the name of the account",
-        Parameter::Key => "the secret of the account",
-        Parameter::Amount => "how much",
-        Parameter::Vendor => "the name of the vendor",
-        Parameter::Broker => "the name of the broker",
-        Parameter::Peer => "the name of the vendor or the broker",
-        Parameter::Order => "the number of the order",
-        Parameter::Connect => "where the site is reached",
-        Parameter::Limit => "what the piece that pays has to be worth at least",
-        Parameter::Budget => "what all payments may come to",
-        Parameter::Before => "the moment before which a piece ends",
-        _ => "an option",
-    }
 }
 
 /// Tells which words a parameter has.
