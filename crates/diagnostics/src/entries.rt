@@ -2,7 +2,7 @@
 //! on it.
 
 use crate::texts::shown;
-use mc_records::{FRAME, Record, read_record};
+use mc_records::{FRAME, Record, begins_switch, read_record, tail_len};
 use mc_site::Book;
 use scrip_form::Name;
 use scrip_journal::FIRST_GATE;
@@ -25,6 +25,8 @@ pub(crate) struct Entries<'a, F> {
     place: u64,
     filled: usize,
     gate: usize,
+    // whether a Switch was read, from which on each entry has its chain behind its payload
+    switched: bool,
 }
 
 impl<'a, F: OpenFile + FileExt> Entries<'a, F> {
@@ -42,6 +44,7 @@ impl<'a, F: OpenFile + FileExt> Entries<'a, F> {
             place,
             filled: 0,
             gate: 0,
+            switched: false,
         })
     }
 
@@ -55,8 +58,11 @@ impl<'a, F: OpenFile + FileExt> Entries<'a, F> {
             }
         };
         let from = self.gate.saturating_add(FRAME as usize);
-        self.gate = from.saturating_add(length);
-        self.page.get(from..self.gate)
+        let end = from.saturating_add(length);
+        self.gate = end.saturating_add(tail_len(self.switched) as usize);
+        let payload = self.page.get(from..end)?;
+        self.switched = self.switched || begins_switch(payload);
+        Some(payload)
     }
 
     /// The length of the next entry's payload, where it stands whole in the page.
