@@ -5,8 +5,9 @@ use command_table::{Parameter, Shape, Sort, unfit_parameter, usage_of};
 use mc_words::{WrongWord, wrong_word};
 use std::alloc::{AllocError, Global};
 
-/// Tells on standard error which word is wrong, where one is, by its place where it may be a secret, what may be written there,
-/// or which word is missing, and which words the command has that these begin with, or which commands there are.
+/// Tells on standard error which word is wrong, where one is, by its place where it may be a secret, and what may be
+/// written there, or which word is missing; and which words the command has that these begin with, or which commands
+/// there are.
 pub fn tell_usage(rt: &impl Eprint, alloc: Global, words: &[String]) {
     match wrong_word(alloc, words) {
         Ok(Some(WrongWord::Word(word))) => {
