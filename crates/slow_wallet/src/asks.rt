@@ -20,7 +20,7 @@ use slow_ledger::Prefix;
 use std::alloc::{AllocError, Global};
 
 /// What is asked: goods of a vendor; scrip of a vendor, for scrip of a broker; or scrip of a broker out of an
-/// account, under its key and an order. A limit is the most that may be paid.
+/// account, under its key and an order. A limit is the least that the piece that pays is worth.
 #[derive(Clone, Copy, Drop)]
 pub enum Asking<'a> {
     Get {
