@@ -55,7 +55,7 @@ def kit():
 
 def listed():
     """The list of the sources, by which they are known as unchanged."""
-    return subprocess.run([ROOT / "scripts/sources"], stdout=subprocess.PIPE, check=True).stdout
+    return subprocess.run([ROOT / "scripts/sources"], stdout=subprocess.PIPE).stdout
 
 
 class Crates:
@@ -196,7 +196,7 @@ def adopt(crates, sources):
         return False
     folders = (ROOT / "crates").glob("*/out")
     births = subprocess.run(["stat", "-c", "%.9W", *folders], stdout=subprocess.PIPE, check=True).stdout.split()
-    changed = max(float(line.split()[0]) for line in sources.splitlines())
+    changed = max((float(line.split()[0]) for line in sources.splitlines()), default=float("inf"))
     if not changed < min(map(float, births)) < MADE.stat().st_mtime:
         return False
     put(MADE, crates.program())
@@ -214,7 +214,7 @@ def put(program, place):
 def note(program, sources):
     """Notes the program as that of these sources, where they have not changed meanwhile. Where it can't be noted, the next
     call compares again."""
-    if listed() != sources:
+    if not sources or listed() != sources:
         return
     with contextlib.suppress(OSError):
         part = program.parent / f"sources.{os.getpid()}"
@@ -248,7 +248,9 @@ class Teller:
         so_far = f"millicent: {self.done} of {self.count} crates proved, {now - self.began:.0f} s"
         names = " ".join(sorted(at_work))
         if sys.stderr.isatty():
-            print(f"\r\033[K{so_far}{self.left(weight)}, at work: {names}"[:160], end="", file=sys.stderr, flush=True)
+            width = os.get_terminal_size(sys.stderr.fileno()).columns or 80
+            line = f"{so_far}{self.left(weight)}, at work: {names}"[:width - 1]
+            print(f"\r\033[K{line}", end="", file=sys.stderr, flush=True)
         elif proved or now - self.said > SILENCE:
             print(f"{so_far}: {proved}" if proved else f"{so_far}, at work: {names}", file=sys.stderr, flush=True)
             self.said = now
@@ -373,8 +375,8 @@ def break_off(*_):
     """Ends the tools at work, and the build; what they had made in part is taken away by the next one."""
     for tool in list(AT_WORK):
         tool.kill()
-    how_far = f"{Teller.now.done} of {Teller.now.count} crates are proved" if Teller.now else "what is proved is"
-    print(f"\nmillicent: broken off; {how_far} and kept in out/build, and the next call goes on there", file=sys.stderr)
+    how_far = f"{Teller.now.done} of {Teller.now.count} crates are proved and" if Teller.now else "what is proved is"
+    print(f"\nmillicent: broken off; {how_far} kept in out/build, and the next call goes on there", file=sys.stderr)
     os._exit(130)
 
 
