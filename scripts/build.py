@@ -7,8 +7,8 @@
 `./millicent` calls it where the sources may not be those of the program that is kept. What a crate was made of (the
 toolchain, its sources, and the same of each crate below it) names the folder that keeps it, out/build/NAME-SUM, so a call
 that was broken off goes on where it was, and after an edit only that crate and those above it are proved again. The program
-is kept likewise, where `rt ci` removes nothing, with a list of its sources (`scripts/sources`), and out/build/current is its
-folder. Where none is kept of these sources, but `rt ci` made one and no source has changed since it began, that one is taken.
+is kept likewise, where `rt ci` removes nothing, with a list of its sources (`scripts/sources`), and out/build/current names
+its folder. Where none is kept of these sources, but `rt ci` made one and no source has changed since it began, that one is taken.
 A crate for which most waits goes first, and may use all processors. It prints on standard error how far it is, and ends with
 70 where a crate is not proved, or the program can't be linked."""
 import concurrent.futures
@@ -221,7 +221,7 @@ def note(program, sources):
         part.write_bytes(sources)
         os.rename(part, program.parent / "sources")
         part = ROOM / f"current.{os.getpid()}"
-        part.symlink_to(program.parent.name)
+        part.write_text(program.parent.name + "\n")
         os.rename(part, CURRENT)
 
 
@@ -304,7 +304,7 @@ def prove_all(crates, jobs):
 def prune(crates):
     """Takes away what other sources had made, and what a build that was broken off had made in part."""
     kept = {crates.program(), *(crates.library(it) for it in crates.below(PROGRAM))}
-    for folder in [it for it in ROOM.iterdir() if it.is_dir() and not it.is_symlink()]:
+    for folder in [it for it in ROOM.iterdir() if it.is_dir()]:
         for made in folder.iterdir():
             if made not in kept and re.search(r"\.\d+(\.o)?$", made.name):
                 shutil.rmtree(made) if made.is_dir() else made.unlink()

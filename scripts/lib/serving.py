@@ -10,8 +10,8 @@ from pathlib import Path
 import millicent
 
 TOP = Path(__file__).resolve().parents[2]
-# The program that the gate made, or that `./millicent` keeps.
-BUILT = [TOP / "crates/millicent/out/millicent", TOP / "out/build/current/millicent"]
+# The programs that the gate made, or `./millicent`, which keeps it where the gate removes nothing.
+BUILT = [TOP / "crates/millicent/out/millicent", *sorted(TOP.glob("out/build/millicent-*/millicent"))]
 PROGRAM = os.environ.get("MILLICENT", str(next((it for it in BUILT if it.exists()), BUILT[0])))
 LINKS = 2**32 - 1
 LINK_FAULT, KILLED = 6, -9
