@@ -5,9 +5,9 @@
     scripts/build.py --run [WORD..]   runs the program with these words then
 
 `./millicent` calls it where the sources may not be those of the program that is kept. What a crate was made of (the
-toolchain, its sources, and the same of each crate below it) names the folder that keeps it, out/build/NAME-SUM, so a call
+toolchain, its sources, and the same of each crate below it) names the folder that keeps it, .git/built/NAME-SUM, so a call
 that was broken off goes on where it was, and after an edit only that crate and those above it are proved again. The program
-is kept likewise, where `rt ci` removes nothing, with a list of its sources (`scripts/sources`), and out/build/current names
+is kept likewise, where `rt ci` removes nothing, with a list of its sources (`scripts/sources`), and .git/built/current names
 its folder. Where none is kept of these sources, but `rt ci` made one and no source has changed since it began, that one is taken.
 A crate for which most waits goes first, and may use all processors. It prints on standard error how far it is, and ends with
 70 where a crate is not proved, or the program can't be linked."""
@@ -25,7 +25,9 @@ import sys
 import time
 
 ROOT = pathlib.Path(__file__).resolve().parent.parent
-ROOM = ROOT / "out/build"
+# In .git, since `rt ci` stops at sources that lie anywhere else in the tree, as a proved library has some; out/build where the
+# tree is no clone.
+ROOM = ROOT / (".git/built" if (ROOT / ".git").is_dir() else "out/build")
 CURRENT = ROOM / "current"
 PROGRAM = "millicent"
 # Where `rt ci` makes the program, and where README.md and docs/ name it.
@@ -376,7 +378,7 @@ def break_off(*_):
     for tool in list(AT_WORK):
         tool.kill()
     how_far = f"{Teller.now.done} of {Teller.now.count} crates are proved and" if Teller.now else "what is proved is"
-    print(f"\nmillicent: broken off; {how_far} kept in out/build, and the next call goes on there", file=sys.stderr)
+    print(f"\nmillicent: broken off; {how_far} kept in {ROOM.relative_to(ROOT)}, and the next call goes on there", file=sys.stderr)
     os._exit(130)
 
 

@@ -11,7 +11,7 @@ import millicent
 
 TOP = Path(__file__).resolve().parents[2]
 # The programs that the gate made, or `./millicent`, which keeps it where the gate removes nothing.
-BUILT = [TOP / "crates/millicent/out/millicent", *sorted(TOP.glob("out/build/millicent-*/millicent"))]
+BUILT = [TOP / "crates/millicent/out/millicent", *sorted(TOP.glob(".git/built/millicent-*/millicent"))]
 PROGRAM = os.environ.get("MILLICENT", str(next((it for it in BUILT if it.exists()), BUILT[0])))
 LINKS = 2**32 - 1
 LINK_FAULT, KILLED = 6, -9
