@@ -24,7 +24,7 @@ def proxied(book, vendor):
     killer.start()
     try:
         first = proxy.stderr.readline()
-        port = re.fullmatch(rb"listening at 127\.0\.0\.1:(\d+)\n", first)
+        port = re.fullmatch(rb"millicent: w listens at 127\.0\.0\.1:(\d+), \d+ entries\n", first)
         reply = b""
         if port:
             with Link(("127.0.0.1", int(port[1])), SECONDS) as link:
