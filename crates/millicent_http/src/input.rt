@@ -65,8 +65,9 @@ fn read_input<K: Link>(alloc: Global, k: &mut K, most: usize) -> Result<Vec<u8>,
     }
 }
 
-/// Receives bytes of the standing link until the buffer is full or the link ends, and answers how many.
-fn receive<K: Link>(k: &mut K, buf: &mut [u8]) -> Result<usize, LinkFault>
+/// Receives bytes of the standing link until the buffer is full or the link ends, and answers how many. After an `Err` the
+/// bytes are unspecified.
+pub fn receive<K: Link>(k: &mut K, buf: &mut [u8]) -> Result<usize, LinkFault>
     requires stands { IsTrue (K.link k.old).stands }
     ensures moved { K.link_moved k.old k.new }
     ensures len { length buf.new ≡ length buf.old }

@@ -17,7 +17,7 @@ mod send;
 mod whole;
 
 pub use clock::Clock;
-pub use input::{InputFault, input_of};
+pub use input::{InputFault, input_of, receive};
 pub use item::{After, HeadOut, HeadRefusal, ItemRef};
 pub use law::{a_refusal_has_a_status, a_request_asks_a_target, one_reading};
 pub use reader::{HeadReader, MAX_HEAD, MAX_ITEMS};
