@@ -6,7 +6,7 @@ use Rattle.mc_records.specs.Entry.{Entry}
 use Rattle.mc_records.specs.Following.{AllFollowBy}
 use Rattle.mc_requests.specs.declared.limits.TheConstants.Limits.{MOST_JOURNAL}
 use Rattle.scrip_journal.specs.Layout.{header, Encodes}
-use Rattle.scrip_journal.specs.States.{AtRest, Reading, IsJournal, IsReading}
+use Rattle.scrip_journal.specs.States.{AtRest, Reading, IsJournal, IsReading, MayGoOn}
 use Rattle.scrip_journal.specs.Founds.{fault_disk}
 use Rattle.scrip_journal.specs.Causes.{FoundsSite, IsOfOtherKind, SpoilsAt, UnchainsAt, IsUnlawfulAt, IsOfOther}
 use Rattle.scrip_journal.specs.declared.cursor.TheConstants.{FIRST_GATE}
@@ -114,8 +114,8 @@ LearnsNext view opener bytes r learner (Ok true) = LearnedSome view opener r lea
 LearnsNext view opener bytes r learner (Ok false) = LearnedAll view opener bytes r learner
 LearnsNext view opener bytes r learner (Err halt) = HaltsBy opener bytes halt
 
--- Where an entry was learned the next gate came further, and where there is none the reading ended.
+-- Where an entry was learned the next gate came further, and the reading may go on; where there is none it ended.
 abbrev pub GoesFurther : {D : Type 0} → Reading D → Result Bool Halt → Reading D → Type 0
-GoesFurther old (Ok true) new = (old.gate < new.gate) × (new.gate < MOST_JOURNAL) × (new.ended ≡ None)
+GoesFurther old (Ok true) new = (old.gate < new.gate) × (new.gate < MOST_JOURNAL) × (new.ended ≡ None) × MayGoOn new
 GoesFurther old (Ok false) new = new.ended ≡ Some Closed
 GoesFurther old (Err halt) new = Unit {0}

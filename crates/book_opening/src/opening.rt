@@ -5,7 +5,7 @@ ghost use Rattle.mc_outside.specs.DiskView.{OnlyRead};
 ghost use Rattle.mc_records.specs.Entry.{Fits};
 ghost use Rattle.mc_requests.specs.Limits.{AreInRange};
 ghost use Rattle.mc_records.specs.Views.{entry};
-ghost use Rattle.scrip_journal.specs.States.{IsReading};
+ghost use Rattle.scrip_journal.specs.States.{IsReading, MayGoOn};
 ghost use Rattle.scrip_journal.specs.declared.cursor.TheConstants.{FIRST_GATE};
 ghost use Rattle.scrip_journal.specs.declared.ending.Ending.TheVariants.{Closed};
 ghost use Rattle.book_opening.specs.Opening.{opened_disk, CountedBy, OpensBook, ReadOn, LearnedSome, LearnedAll, HaltsBy, HaltCounts, BeginsBy, LearnsNext, GoesFurther, fault_with};
@@ -100,6 +100,7 @@ fn learn_book<D: Disk, O: Opener>(
 ) -> Result<O::Learner, Halt>
     requires ready { (O.opener opener).ready }
     requires going { replay.old.ended ≡ None }
+    requires goes_on { MayGoOn replay.old }
     requires front { replay.old.gate ≡ FIRST_GATE }
     ensures read { ReadOn D.disk D.disk_moved replay.old replay.new }
     ensures closed { OnOk result (replay.new.ended ≡ Some Closed) }
@@ -129,9 +130,11 @@ fn learn_first<D: Disk, O: Opener>(
 ) -> Result<O::Learner, Halt>
     requires ready { (O.opener opener).ready }
     requires going { replay.old.ended ≡ None }
+    requires goes_on { MayGoOn replay.old }
     requires front { replay.old.gate ≡ FIRST_GATE }
     ensures read { ReadOn D.disk D.disk_moved replay.old replay.new }
     ensures going { OnOk result (replay.new.ended ≡ None) }
+    ensures goes_on { OnOk result (MayGoOn replay.new) }
     ensures belongs { IfOk result (O.opener opener).belongs }
     ensures counts { HaltCounts result (D.disk replay.old.disk).faults
         (D.disk replay.new.disk).faults }
@@ -178,6 +181,7 @@ fn learn_rest<D: Disk, O: Opener>(
     learner: &mut O::Learner,
 ) -> Result<(), Halt>
     requires going { replay.old.ended ≡ None }
+    requires goes_on { MayGoOn replay.old }
     ensures read { ReadOn D.disk D.disk_moved replay.old replay.new }
     ensures closed { OnOk result (replay.new.ended ≡ Some Closed) }
     ensures belongs { (o : O) → (O.opener o).belongs learner.old
@@ -204,6 +208,7 @@ fn learn_next<D: Disk, O: Opener>(
     learner: &mut O::Learner,
 ) -> Result<bool, Halt>
     requires going { replay.old.ended ≡ None }
+    requires goes_on { MayGoOn replay.old }
     ensures read { ReadOn D.disk D.disk_moved replay.old replay.new }
     ensures further { GoesFurther replay.old result replay.new }
     ensures belongs { (o : O) → (O.opener o).belongs learner.old

@@ -2,6 +2,7 @@
 
 ghost use Rattle.std.specs.Prelude.{[]};
 ghost use Rattle.mc_requests.specs.Limits.{AreInRange};
+ghost use Rattle.scrip_journal.specs.States.{MayGoOn};
 
 use crate::serve_verbs::unopened;
 use broker_core::Desk;
@@ -102,9 +103,11 @@ fn unread(fault: OpenFault<Stage>) -> Fault {
     }
 }
 
-fn read_all(alloc: Global, replay: &mut Replay<Stage>) -> Result<History, Fault> {
+fn read_all(alloc: Global, replay: &mut Replay<Stage>) -> Result<History, Fault>
+    requires { MayGoOn replay.old }
+{
     let mut history = History::new(alloc);
-    for _ in 0..u64::MAX {
+    'entries: for _ in 0..u64::MAX {
         match replay.next_record() {
             Ok(Some(_)) => {}
             Ok(None) => break,

@@ -1,5 +1,8 @@
 //! Lines that read and write journals.
 
+ghost use Rattle.std.specs.Prelude.{◌≡◌, true, OnOk};
+ghost use Rattle.scrip_journal.specs.States.{MayGoOn};
+
 use crate::fault::Fault;
 use crate::show::Lines;
 use crate::state::State;
@@ -127,8 +130,10 @@ fn replay(state: &mut State, out: &mut Lines) -> Result<(), Fault> {
     state.show_stage(stage, out)
 }
 
-fn read_all(alloc: Global, mut replay: Replay<Stage>, out: &mut Lines) -> Stage {
-    for _ in 0..u64::MAX {
+fn read_all(alloc: Global, mut replay: Replay<Stage>, out: &mut Lines) -> Stage
+    requires { MayGoOn replay }
+{
+    'entries: for _ in 0..u64::MAX {
         if !read_one(alloc, &mut replay, out) {
             break;
         }
@@ -137,7 +142,10 @@ fn read_all(alloc: Global, mut replay: Replay<Stage>, out: &mut Lines) -> Stage 
 }
 
 /// Reads and prints the next entry, or how the journal ends. Whether there was an entry.
-fn read_one(alloc: Global, replay: &mut Replay<Stage>, out: &mut Lines) -> bool {
+fn read_one(alloc: Global, replay: &mut Replay<Stage>, out: &mut Lines) -> bool
+    requires { MayGoOn replay.old }
+    ensures { result ≡ true → MayGoOn replay.new }
+{
     let shown = match replay.next_record() {
         Ok(Some(gate)) => show_found(alloc, gate, replay, out),
         Ok(None) => {
@@ -167,7 +175,9 @@ fn show_found(
     gate: u64,
     replay: &Replay<Stage>,
     out: &mut Lines,
-) -> Result<(), ReplayFault> {
+) -> Result<(), ReplayFault>
+    ensures { OnOk result (MayGoOn replay.now) }
+{
     let mut payload = Vec::new(alloc);
     let is_written = match replay.record() {
         Ok(record) => write_record(&record, &mut payload).is_ok(),

@@ -57,6 +57,7 @@ module _ {D : Type 0} (view : D → DiskView) (moved : D → D → Type 0) (old 
     ended = looked.ended ∙ on;
     limit = looked.limit;
     rises = λ place is. (omega (arith, looked.gate), omega (arith, frame.within));
+    counted = λ place is. ap (λ (n : ℕ). n + 1) looked.entries;
     stays = λ is. absurd (cc is);
     still = λ is. absurd (cc is);
     cause = λ _. faults;
@@ -119,6 +120,7 @@ module _ {D : Type 0} (view : D → DiskView) (moved : D → D → Type 0) (old 
         ended = ended_so e;
         limit = looked.limit;
         rises = λ place is. absurd (no_place e place is);
+        counted = λ place is. absurd (no_place e place is);
         stays = λ is. looked.gate;
         still = λ is. looked.switched;
         cause = λ _. caused e faults;

@@ -65,6 +65,8 @@ pub record Advanced {D : Type 0} (view : D → DiskView) (moved : D → D → Ty
   pub limit : new.limit ≡ old.limit
   -- the next gate comes behind the entry that was read
   pub rises : (place : ℕ) → given ≡ Ok (Some place) → (old.gate < new.gate) × (new.gate < MOST_JOURNAL)
+  -- one payload more was found
+  pub counted : (place : ℕ) → given ≡ Ok (Some place) → new.entries ≡ old.entries + 1
   -- and stays where there is none
   pub stays : given ≡ Ok None → new.gate ≡ old.gate
   pub still : given ≡ Ok None → new.switched ≡ old.switched

@@ -1,8 +1,8 @@
 -- The states of a journal. Each is seen as the disk that it owns and some numbers.
-use Rattle.std.specs.Prelude.{◌≡◌, ◌≢◌, ℕ, ◌+◌, ◌≤◌, Bool, true, false, List, [], ◌∷◌, ◌++◌, length, Option, Some, None, IsSome, unwrap_or}
+use Rattle.std.specs.Prelude.{◌≡◌, ◌≢◌, ◌⊎◌, ℕ, ◌+◌, ◌≤◌, Bool, true, false, List, [], ◌∷◌, ◌++◌, length, Option, Some, None, IsSome, unwrap_or}
 use Rattle.std.specs.List.{AllByRecursion}
 use Rattle.mc_outside.specs.DiskView.{DiskView}
-use Rattle.mc_records.specs.Entry.{Entry, Fits}
+use Rattle.mc_records.specs.Entry.{Entry, Fits, payload}
 use Rattle.mc_records.specs.Chains.{first_chain, chain, chain_after, has_switch}
 use Rattle.mc_records.specs.Sizes.{size}
 use Rattle.mc_outside.specs.Bytes.{BeginsWith}
@@ -73,6 +73,10 @@ pub record Reading (D : Type 0) : Type 0 where
   pub last : List ℕ
   pub at : ℕ
   pub ended : Option Ending
+
+-- The next entry may be looked for: the reading has ended, or found no payload yet, or the one found last is an entry's.
+pub record MayGoOn {D : Type 0} (r : Reading D) : Type 0 where
+  pub at_entry : r.ended ≡ None → (r.entries ≡ 0) ⊎ ((e : Entry) × Fits e × (r.last ≡ payload e))
 
 -- The disk tells its bytes, which encode these entries, and a crash now leaves just them.
 pub record IsJournal {D : Type 0} (view : D → DiskView) (j : AtRest D) (h : List Entry) : Type 0 where

@@ -4,7 +4,7 @@ ghost use Rattle.std.specs.Prelude.{◌≡◌, [], List, ℕ, IfOk, IfErr, OnOk,
 ghost use Rattle.mc_outside.specs.Bytes.{Rose};
 ghost use Rattle.mc_outside.specs.DiskView.{OnlyRead, IsSynced};
 ghost use Rattle.mc_requests.specs.Limits.{AreInRange};
-ghost use Rattle.scrip_journal.specs.States.{IsReading};
+ghost use Rattle.scrip_journal.specs.States.{IsReading, MayGoOn};
 ghost use Rattle.scrip_journal.specs.declared.cursor.TheConstants.{FIRST_GATE};
 ghost use Rattle.scrip_journal.specs.Opens.{open_disk, MatchOpenFault, OpensBy};
 
@@ -34,6 +34,7 @@ pub fn open_journal<D: Disk>(
         → IsReading D.disk r []) }
     ensures fresh { IfOk result (λ r. (r.gate ≡ FIRST_GATE) × (r.entries ≡ 0) × (r.limit ≡ limits.journal)
         × (r.ended ≡ None) × (r.switched ≡ false)) }
+    ensures goes_on { IfOk result (λ r. MayGoOn r) }
     ensures exact { (x : List ℕ) → (D.disk disk).contents ≡ Some x → OpensBy x result }
     ensures fault { IfErr result (λ f. MatchOpenFault f
         (λ d. (D.disk d).faults ≡ (D.disk disk).faults)

@@ -8,7 +8,7 @@ ghost use Rattle.mc_records.specs.Chains.{first_chain};
 ghost use Rattle.mc_records.specs.Entry.{Entry, Fits, payload};
 ghost use Rattle.mc_records.specs.Sizes.{tail_bytes};
 ghost use Rattle.mc_records.specs.Views.{entry};
-ghost use Rattle.scrip_journal.specs.States.{IsReading, IsJournal, chain_with};
+ghost use Rattle.scrip_journal.specs.States.{IsReading, IsJournal, MayGoOn, chain_with};
 ghost use Rattle.scrip_journal.specs.Layout.{header};
 ghost use Rattle.scrip_journal.specs.Replays.{Advanced, ReadAhead, LookedOn, FaultsBy, IsMalformed, IsPayload, IsFrame, IsTold, EndsHere, EndsBehind, EndsReading, IsCut, AllHeld, TookEntry, FoundHeader, RestsBehind};
 ghost use Rattle.mc_records.specs.declared.sizes.TheConstants.{PAYLOAD_BOUND};
@@ -87,8 +87,9 @@ impl<D: Disk> Replay<D> {
     /// a chain that is cut or another, and before one that has yet to be found, in a payload the place that
     /// [`read_record`] gives. `BadChain` comes where 32 whole bytes of a chain are another than that of the entries.
     /// `Disk` comes only where the disk failed. After `None` or a fault the same answer comes again. After a fault of
-    /// [`Replay::record`] this call would go on behind the malformed payload, and nothing is promised of it.
+    /// [`Replay::record`] this can't be called: only that call's Ok says that the next entry may be looked for.
     pub fn next_record(&mut self) -> Result<Option<u64>, ReplayFault>
+        requires goes_on { MayGoOn self.old }
         ensures { Advanced D.disk D.disk_moved self.old result self.new }
     {
         if let Some(ending) = self.ended {
@@ -108,10 +109,11 @@ impl<D: Disk> Replay<D> {
     /// The entry that was found last, which lies in the buffer up to the next call of
     /// [`Replay::next_record`]. Its values are in the ranges of its kind. `BadRecord` comes exactly where its payload is
     /// malformed, with the place that [`read_record`] gives, and comes again as long as nothing else is looked for; the bytes
-    /// then encode no entries, and nothing is to be read behind it.
+    /// then encode no entries, and [`Replay::next_record`] can't be called.
     pub fn record(&self) -> Result<Record<'_>, ReplayFault>
         ensures read { IfOk result (λ r. Fits (entry r) × (self.now.last ≡ payload (entry r))) }
         ensures fault { IfErr result (IsMalformed self.now) }
+        ensures goes_on { OnOk result (MayGoOn self.now) }
     {
         match read_record(&self.buf[self.from..self.to]) {
             Ok(record) => Ok(record),

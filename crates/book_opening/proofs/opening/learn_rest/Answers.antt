@@ -8,6 +8,7 @@ entries-preserved g c =
     record {
       read = read_on_then g.D.Disk.disk g.D.Disk.disk_moved c.args.replay.now c.entries.replay c.learn_next.new.replay (g.met.D.Disk.disk_goes_on _ _ _ c.entries.invariant.read.disk_moved c.learn_next.ensures.read.disk_moved) c.entries.invariant.read c.learn_next.ensures.read;
       going = further.2;
+      goes_on = further.3;
       faults = c.in-Ok-true.ensures.counts ∙ c.entries.invariant.faults;
       belongs = λ o belongs. c.in-Ok-true.ensures.belongs o (c.entries.invariant.belongs o belongs);
       learned = λ o x told belongs l.
