@@ -80,6 +80,11 @@ marked-remove rs i n d old index rising lt its left marked k e within =
     (false_from_ne_true (eqb n (number o)) (λ same. others rs i d rising lt k e within (sym (eqb-true n (number o) same) ∙ its)))
     (All-remove (λ r. has_mark old r ≡ true) rs i marked k e within)
 
+-- the tag of the dropped one led to its mark
+pub marked_at : (rs : List KeptReply) (i tag n : ℕ) (d : KeptReply) (index : IndexView) → i < length rs → tag ≡ request_tag (get_or rs i d).asked → n ≡ number (get_or rs i d)
+    → All (λ r. has_mark index r ≡ true) rs → leads index tag (λ m. eqb m n) ≡ true
+marked_at rs i tag n d index lt tags its marked = (λ k. leads index (tags k) (λ m. eqb m (its k))) ∙ marked i d lt
+
 -- ---- where none is over
 
 -- from a reply in time on, all are, where the moments are in order

@@ -1,13 +1,16 @@
 -- What marks lead to.
-use Rattle.std.proofs.Common.{◌≡◌, ℕ, zero, suc, ◌<◌, ◌/◌, ◌%◌, Bool, true, false, not, ◌&&◌, ◌||◌, eqb, List, [], ◌∷◌, ◌++◌, length, filter, get_or, set, None, Some, Option, inl, inr, refl, sym, ap, subst, ◌∙◌, length-set, get_or-set_same}
+use Rattle.std.proofs.Common.{◌≡◌, ℕ, zero, suc, ◌+◌, ◌*◌, ◌^◌, ◌<◌, ◌≤◌, ◌/◌, ◌%◌, cond, arith, Bool, true, false, not, ◌&&◌, ◌||◌, eqb, List, [], ◌∷◌, ◌++◌, length, filter, get_or, set, None, Some, Option, inl, inr, refl, sym, ap, subst, ◌∙◌, length-set, get_or-set_same}
 use Rattle.std.specs.Bool.{then_some}
-use Rattle.std.specs.List.{list_any}
-use Rattle.std.proofs.lemmas.List.Folds.{list_any_at, list_any-append}
-use Rattle.std.proofs.lemmas.Bool.{or_cases, or_left, or_right, and_parts, eqb-true, ne_eqb, both_ways}
+use Rattle.std.specs.List.{list_any, position, position_from}
+use Rattle.std.specs.Prelude.{sum_by}
+use Rattle.std.proofs.lemmas.List.Folds.{list_any_at, list_any-append, Any-from_list_any}
+use Rattle.std.proofs.lemmas.List.Sums.{sum_by-set, length-filter, count_by-le-length}
+use Rattle.std.proofs.lemmas.Bool.{or_cases, or_left, or_right, and_parts, eqb-true, eq-eqb, ne_eqb, both_ways}
 use Rattle.std.proofs.lemmas.Map.Views.{any-filter_same}
 use Rattle.std.proofs.lemmas.Option.{same_Some}
+use Rattle.std.proofs.lemmas.Iterator.Adapters.{position_from-zero}
 use Rattle.kept_replies.specs.declared.index.TheConstants.{MARKS, SHORTS}
-use Rattle.kept_replies.specs.Index.{IndexView, passes_if, first_place, second_place, bucket_at, bucket_leads, marked_in, slot_leads, leads_in, leads}
+use Rattle.kept_replies.specs.Index.{IndexView, passes_if, first_place, second_place, bucket_at, bucket_leads, marked_in, slot_leads, leads_in, leads, counted, taken_in}
 use Rattle.kept_replies.proofs.SearchLaws.{any_weaker}
 
 -- ---- what one of two things gives
@@ -148,3 +151,137 @@ leads_second bs older t p slot at lead is any =
 pub leads_older : (bs : List (List ℕ)) (older : List ℕ) (t : ℕ) (p : ℕ → Bool) → list_any p older ≡ true → leads_in bs older t p ≡ true
 leads_older bs older t p any =
     or_right (bucket_leads bs (first_place (t % SHORTS) (length bs)) t p || bucket_leads bs (second_place (t % SHORTS) (length bs)) t p) (list_any p older) any
+
+-- ---- how many marks
+
+abbrev weight : Bool → ℕ
+weight empty = cond empty 0 1
+
+-- a slot has at most one, and one that is not empty has one
+pub counted_most : (slot : ℕ) → counted slot ≤ 1
+counted_most slot = go (eqb slot 0)
+  where
+    go : (b : Bool) → cond b 0 1 ≤ 1
+    go true = omega arith
+    go false = omega arith
+
+pub counted_other : (slot : ℕ) → (slot ≡ 0 → ⊥) → counted slot ≡ 1
+counted_other slot other = ap weight (ne_eqb slot 0 other)
+
+-- a slot that was put under a tag has one
+pub counted_one : (tag slot m : ℕ) → marked_in tag slot ≡ Some m → counted slot ≡ 1
+unfolding marked_in
+counted_one tag slot m is = go (eqb slot 0) is
+  where
+    go : (b : Bool) → then_some (not b && eqb (slot / MARKS) (tag % SHORTS)) (slot % MARKS) ≡ Some m → weight b ≡ 1
+    go true e = absurd cc
+    go false e = refl
+
+-- where a slot is replaced
+pub taken-set : (xs : List ℕ) (i was v : ℕ) → i < length xs → get_or xs i 0 ≡ was → taken_in (set xs i v) + counted was ≡ taken_in xs + counted v
+taken-set xs i was v lt is = subst (λ (n : ℕ). taken_in (set xs i v) + counted n ≡ taken_in xs + counted v) is (sum_by-set counted xs i v 0 lt)
+
+-- and where a bucket is
+pub sum-set : (bs : List (List ℕ)) (at : ℕ) (old new : List ℕ) (a b : ℕ) → at < length bs → get_or bs at [] ≡ old → taken_in new + a ≡ taken_in old + b
+    → sum_by taken_in (set bs at new) + a ≡ sum_by taken_in bs + b
+sum-set bs at old new a b lt is its = omega (arith, sum_by-set taken_in bs at new [] lt, ap taken_in is, its)
+
+-- where an older mark is dropped there are fewer
+pub fewer_left : (m : ℕ) (xs : List ℕ) → list_any (λ n. eqb n m) xs ≡ true → length (filter (λ n. not (eqb n m)) xs) < length xs
+fewer_left m [] any = absurd cc
+fewer_left m (x ∷ xs) any = go (eqb x m) any (fewer_left m xs)
+  where
+    others : List ℕ
+    others = filter (λ n. not (eqb n m)) xs
+
+    go : (b : Bool) → (b || list_any (λ n. eqb n m) xs) ≡ true → (list_any (λ n. eqb n m) xs ≡ true → length others < length xs) → length (cond (not b) (x ∷ others) others) < suc (length xs)
+    go true any more = omega (arith, length-filter (λ n. not (eqb n m)) xs, count_by-le-length (λ n. not (eqb n m)) xs)
+    go false any more = omega (arith, more any)
+
+-- a tag leads to an older mark where its buckets lead to none
+pub among_older : (bs : List (List ℕ)) (older : List ℕ) (t : ℕ) (p : ℕ → Bool)
+    → (bucket_leads bs (first_place (t % SHORTS) (length bs)) t p ≡ true → ⊥) → (bucket_leads bs (second_place (t % SHORTS) (length bs)) t p ≡ true → ⊥)
+    → leads_in bs older t p ≡ true → list_any p older ≡ true
+among_older bs older t p no_first no_second lead =
+    let first = bucket_leads bs (first_place (t % SHORTS) (length bs)) t p in
+    let second = bucket_leads bs (second_place (t % SHORTS) (length bs)) t p in
+    elim (or_cases (first || second) (list_any p older) lead) [
+      | inl either ↦
+          elim (or_cases first second either) [
+            | inl l ↦ absurd (no_first l)
+            | inr r ↦ absurd (no_second r)
+          ]
+      | inr any ↦ any
+    ]
+
+-- a slot that leads to one mark is made of it and of the last bits of its tag, and no two are
+pub slot_is : (t : ℕ) (m slot : ℕ) → slot_leads t (λ n. eqb n m) slot ≡ true → slot ≡ (t % SHORTS * MARKS % 2 ^ 64 + m) % 2 ^ 64
+slot_is t m slot lead =
+    let short : slot / MARKS ≡ t % SHORTS = short_is t (λ n. eqb n m) slot lead in
+    let mark : slot % MARKS ≡ m = eqb-true (slot % MARKS) m (mark_passes t (λ n. eqb n m) slot lead) in
+    omega (arith, short, mark)
+
+-- and it is read as this mark
+pub read_as : (t : ℕ) (m slot : ℕ) → slot_leads t (λ n. eqb n m) slot ≡ true → marked_in t slot ≡ Some m
+read_as t m slot lead = go (marked_in t slot) lead
+  where
+    go : (o : Option ℕ) → passes_if (λ n. eqb n m) o ≡ true → o ≡ Some m
+    go None pass = absurd cc
+    go (Some n) pass = ap (λ (k : ℕ). Some k) (eqb-true n m pass)
+
+-- what has no first place is nowhere
+none_from : (p : ℕ → Bool) (i : ℕ) (xs : List ℕ) → position_from p i xs ≡ None → list_any p xs ≡ false
+none_from p i [] none = refl
+none_from p i (x ∷ xs) none = go (p x) (none_from p (i + 1) xs) none
+  where
+    go : (b : Bool) → (position_from p (i + 1) xs ≡ None → list_any p xs ≡ false) → cond b (Some i) (position_from p (i + 1) xs) ≡ None → (b || list_any p xs) ≡ false
+    go true more e = absurd cc
+    go false more e = more e
+
+pub any_none : (p : ℕ → Bool) (xs : List ℕ) → position p xs ≡ None → list_any p xs ≡ false
+any_none p xs none = none_from p 0 xs (sym (position_from-zero p xs) ∙ none)
+
+-- ---- a mark that is dropped
+
+-- where no slot was emptied there are as many as before, and else one less
+pub sum_same : (now was n : ℕ) (dropped : Bool) → now + cond dropped n 0 ≡ was → dropped ≡ false → now ≡ was
+sum_same now was n true sums same = absurd cc
+sum_same now was n false sums same = omega (arith, sums)
+
+pub sum_less : (now was n : ℕ) (dropped : Bool) → now + cond dropped n 0 ≡ was → dropped ≡ true → n ≡ 1 → now < was
+sum_less now was n true sums same one = omega (arith, sums, one)
+sum_less now was n false sums same one = absurd cc
+
+-- slots without the only slot of a mark don't lead to it from its tag, and none do where it has no slot
+not_there : (xs : List ℕ) (tag mark slot : ℕ) → ((s : ℕ) → slot_leads tag (λ n. eqb n mark) s ≡ true → Some slot ≡ Some s) → list_any (λ s. eqb s slot) xs ≡ false
+    → list_any (slot_leads tag (λ n. eqb n mark)) xs ≡ true → ⊥
+not_there xs tag mark slot only none any =
+    both_ways (list_any (λ s. eqb s slot) xs) none (any_weaker (slot_leads tag (λ n. eqb n mark)) (λ s. eqb s slot) (λ s lead. eq-eqb s slot (sym (same_Some slot s (only s lead)))) xs any)
+
+none_there : (xs : List ℕ) (tag mark : ℕ) → ((s : ℕ) → slot_leads tag (λ n. eqb n mark) s ≡ true → ◌≡◌ {A = Option ℕ} None (Some s)) → list_any (slot_leads tag (λ n. eqb n mark)) xs ≡ true → ⊥
+none_there xs tag mark only any =
+    let one = Any-from_list_any (slot_leads tag (λ n. eqb n mark)) xs any in
+    go one.1 (only one.1 one.4)
+  where
+    go : (s : ℕ) → ◌≡◌ {A = Option ℕ} None (Some s) → ⊥
+    go s e = absurd cc
+
+-- so that an older mark is it, where the tag leads to it
+pub older_one : (bs : List (List ℕ)) (older : List ℕ) (tag mark slot : ℕ) → marked_in tag slot ≡ Some mark → ((s : ℕ) → slot_leads tag (λ n. eqb n mark) s ≡ true → Some slot ≡ Some s)
+    → list_any (λ s. eqb s slot) (bucket_at bs (first_place (slot / MARKS) (length bs))) ≡ false → list_any (λ s. eqb s slot) (bucket_at bs (second_place (slot / MARKS) (length bs))) ≡ false
+    → leads_in bs older tag (λ n. eqb n mark) ≡ true → list_any (λ n. eqb n mark) older ≡ true
+older_one bs older tag mark slot read only no_first no_second =
+    let p : ℕ → Bool = λ n. eqb n mark in
+    let short : slot / MARKS ≡ tag % SHORTS = short_is tag p slot (ap (passes_if p) read ∙ eq-eqb mark mark refl) in
+    among_older bs older tag p
+    (not_there (bucket_at bs (first_place (tag % SHORTS) (length bs))) tag mark slot only (subst (λ (n : ℕ). list_any (λ s. eqb s slot) (bucket_at bs (first_place n (length bs))) ≡ false) short no_first))
+    (not_there (bucket_at bs (second_place (tag % SHORTS) (length bs))) tag mark slot only (subst (λ (n : ℕ). list_any (λ s. eqb s slot) (bucket_at bs (second_place n (length bs))) ≡ false) short no_second))
+
+pub older_alone : (bs : List (List ℕ)) (older : List ℕ) (tag mark : ℕ) → ((s : ℕ) → slot_leads tag (λ n. eqb n mark) s ≡ true → ◌≡◌ {A = Option ℕ} None (Some s))
+    → leads_in bs older tag (λ n. eqb n mark) ≡ true → list_any (λ n. eqb n mark) older ≡ true
+older_alone bs older tag mark only =
+    among_older bs older tag (λ n. eqb n mark) (none_there (bucket_at bs (first_place (tag % SHORTS) (length bs))) tag mark only) (none_there (bucket_at bs (second_place (tag % SHORTS) (length bs))) tag mark only)
+
+-- the slot that is answered where it is read as the mark
+pub then_slot : (slot s : ℕ) (is : Bool) (answer : Option ℕ) → answer ≡ then_some is slot → is ≡ true → slot ≡ s → answer ≡ Some s
+then_slot slot s is answer its same slots = its ∙ (λ i. then_some (same i) (slots i))

@@ -1,6 +1,6 @@
 -- The marks by which the program finds kept replies: a mark is the number of a reply's entry. No clause
 -- of a public call cites this.
-use Rattle.std.specs.Prelude.{ℕ, ◌-◌, ◌*◌, ◌/◌, ◌%◌, ◌^◌, Bool, false, not, ◌&&◌, ◌||◌, ◌==◌, nat_lt, if◌then◌else◌, List, [], length, drop, slice_index_or, Option, Some, None}
+use Rattle.std.specs.Prelude.{ℕ, ◌+◌, ◌-◌, ◌*◌, ◌/◌, ◌%◌, ◌^◌, Bool, false, not, ◌&&◌, ◌||◌, ◌==◌, nat_lt, if◌then◌else◌, List, [], length, drop, sum_by, slice_index_or, Option, Some, None}
 use Rattle.std.specs.Bool.{then_some}
 use Rattle.std.specs.List.{list_any}
 use Rattle.std.specs.Int.{from_le_bytes, w128}
@@ -71,3 +71,17 @@ leads index tag p = leads_in index.buckets index.older tag p
 -- whether a mark is that of a reply
 abbrev pub is_mark_of : KeptReply → ℕ → Bool
 is_mark_of r m = m == r.entry.number
+
+-- how many marks a slot has, how many some slots have, how many some buckets have with the older marks, and how many
+-- there are
+abbrev pub counted : ℕ → ℕ
+counted slot = if slot == 0 then 0 else 1
+
+abbrev pub taken_in : List ℕ → ℕ
+taken_in slots = sum_by counted slots
+
+abbrev pub marks_in : List (List ℕ) → List ℕ → ℕ
+marks_in buckets older = sum_by taken_in buckets + length older
+
+abbrev pub marks : IndexView → ℕ
+marks index = marks_in index.buckets index.older

@@ -1,12 +1,12 @@
 -- How the program stores what is kept. No clause of a public call cites this.
-use Rattle.std.specs.Prelude.{◌≡◌, ℕ, ◌+◌, ◌-◌, ◌<◌, ◌≤◌, ◌^◌, Bool, false, ◌&&◌, ◌==◌, nat_lt, if◌then◌else◌, List, [], ◌∷◌, All, IsTrue, IsFalse, Option, Some, None}
+use Rattle.std.specs.Prelude.{◌≡◌, ℕ, ◌+◌, ◌-◌, ◌<◌, ◌≤◌, ◌^◌, Bool, false, ◌&&◌, ◌==◌, nat_lt, if◌then◌else◌, List, [], ◌∷◌, All, IsTrue, IsFalse, Option, Some, None, length}
 use Rattle.std.specs.List.{AllByRecursion}
 use Rattle.std.specs.List.Sorted.{IsPartitionPoint}
 use Rattle.mc_requests.specs.Requests.{Asked}
 use Rattle.kept_replies.specs.Requests.{is_same_request}
 use Rattle.kept_replies.specs.Kept.{KeptReply, KeptView, AreRising, is_in_time, with_number}
 use Rattle.kept_replies.specs.declared.parts.TheConstants.{MOST_BESIDE}
-use Rattle.kept_replies.specs.Index.{IndexView, request_tag, leads, is_mark_of}
+use Rattle.kept_replies.specs.Index.{IndexView, request_tag, leads, is_mark_of, marks}
 
 -- two replies have one number where they are to the same request
 abbrev pub HaveOneNumber : KeptReply → KeptReply → Type 0
@@ -34,13 +34,14 @@ AreInOrder [] = Unit {0}
 AreInOrder (r ∷ rs) = IsAboveNone r rs × AreInOrder rs
 
 -- What holds of what is stored: the numbers rise, the moments are in order where it is noted, each reply
--- is to a request of its own and has its mark, and the buffer for the next reply is empty and has room for
--- fewer than 2^16 bytes.
+-- is to a request of its own and has its mark, there are no more marks than replies, and the buffer for the next
+-- reply is empty and has room for fewer than 2^16 bytes.
 pub record IsStored (replies : List KeptReply) (in_order : Bool) (index : IndexView) (spare : List ℕ) (spare_room : ℕ) : Type 0 where
   pub rising : AreRising replies
   pub order : IsTrue in_order → AreInOrder replies
   pub own : AreToOwnRequests replies
   pub marked : All (λ r. IsTrue (has_mark index r)) replies
+  pub few : marks index ≤ length replies
   pub empty : spare ≡ []
   pub short : spare_room < 2 ^ 16
 

@@ -1,7 +1,7 @@
-ghost use Rattle.std.specs.Prelude.{◌≡◌, ℕ, ◌%◌, ◌<◌, Bool, [], ◌==◌, ◌&&◌, ◌||◌, IfSome, Some, IsTrue, IsFalse, OnOk, length, vec_len, vec_capacity};
+ghost use Rattle.std.specs.Prelude.{◌≡◌, ℕ, ◌+◌, ◌*◌, ◌/◌, ◌%◌, ◌<◌, ◌≤◌, Bool, [], ◌==◌, ◌&&◌, ◌||◌, if◌then◌else◌, IfSome, Some, IsTrue, IsFalse, OnOk, length, sum_by, vec_len, vec_capacity};
 ghost use Rattle.std.specs.List.{list_any, position};
 ghost use Rattle.mc_requests.specs.Requests.{asked_of};
-ghost use Rattle.kept_replies.specs.Index.{text_tag, request_tag, first_place, second_place, bucket_at, marked_in, slot_leads, leads_in, leads};
+ghost use Rattle.kept_replies.specs.Index.{text_tag, request_tag, first_place, second_place, bucket_at, marked_in, slot_leads, leads_in, leads, counted, taken_in, marks_in, marks};
 
 use mc_base::NoMemory;
 use mc_requests::Request;
@@ -37,8 +37,6 @@ const CROWD: usize = 12;
 pub(crate) struct Index {
     /// Marks with bits of their tags; 0 is an empty slot.
     buckets: Vec<[u64; WIDTH]>,
-    /// How many marks were put and not dropped.
-    taken: usize,
     /// Those for which no slot was free, or which are too large for one. There are hardly ever any.
     older: Vec<u64>,
 }
@@ -61,17 +59,20 @@ impl Index {
     {
         Index {
             buckets: Vec::new(alloc),
-            taken: 0,
             older: Vec::new(alloc),
         }
     }
 
-    /// Makes a place for one more mark. The marks lead to what they did, after an `Err` too.
-    pub(crate) fn reserve(&mut self) -> Result<(), NoMemory>
-        ensures marks { (t : ℕ) (p : ℕ → Bool) → IsTrue (leads self.old t p) → IsTrue (leads self.new t p) }
+    /// Makes a place for one more mark, where so many replies are kept. The marks lead to what they did, and are
+    /// no more than they were, after an `Err` too. There are more buckets only where so many replies are
+    /// twelve for each.
+    pub(crate) fn reserve(&mut self, kept: usize) -> Result<(), NoMemory>
+        ensures leads { (t : ℕ) (p : ℕ → Bool) → IsTrue (leads self.old t p) → IsTrue (leads self.new t p) }
+        ensures marks { marks self.new ≤ marks self.old }
         ensures place { OnOk result (IsTrue self.new.has_place) }
+        ensures buckets { kept < CROWD * length self.old.buckets → self.new.buckets ≡ self.old.buckets }
     {
-        if self.taken / CROWD >= self.buckets.len() {
+        if kept / CROWD >= self.buckets.len() {
             widen(&mut self.buckets, &mut self.older)?;
         }
         self.older.reserve(1)?;
@@ -79,13 +80,13 @@ impl Index {
     }
 
     /// Puts a mark under a tag, for which there is a place. It leads to what it should, and the others
-    /// still do. It takes no memory.
+    /// still do. There is at most one mark more. It takes no memory.
     pub(crate) fn put(&mut self, tag: u64, mark: u64)
         requires { IsTrue self.old.has_place }
-        ensures { (t : ℕ) (p : ℕ → Bool) → IsTrue (leads self.old t p || (tag == t && p mark))
+        ensures leads { (t : ℕ) (p : ℕ → Bool) → IsTrue (leads self.old t p || (tag == t && p mark))
             → IsTrue (leads self.new t p) }
+        ensures marks { marks self.new ≤ marks self.old + 1 }
     {
-        self.taken = self.taken.saturating_add(1);
         match slot_of(tag, mark) {
             Some(slot) => put_slot(&mut self.buckets, &mut self.older, slot),
             None => match self.older.push(mark) {
@@ -95,13 +96,14 @@ impl Index {
         }
     }
 
-    /// Drops this mark, which was put under this tag; the others lead to what they did. The older marks
-    /// are looked through only where it has no slot. It takes no memory.
+    /// Drops this mark, which was put under this tag; the others lead to what they did. Where the tag led to
+    /// the mark, there are fewer marks then. The older ones are looked through only where it has no slot. It
+    /// takes no memory.
     pub(crate) fn drop_mark(&mut self, tag: u64, mark: u64)
-        ensures { (t : ℕ) (p : ℕ → Bool) → IsFalse (p mark)
+        ensures left { (t : ℕ) (p : ℕ → Bool) → IsFalse (p mark)
             → IsTrue (leads self.old t p) → IsTrue (leads self.new t p) }
+        ensures fewer { IsTrue (leads self.old tag (λ m. m == mark)) → marks self.new < marks self.old }
     {
-        self.taken = self.taken.saturating_sub(1);
         let had_slot = match slot_of(tag, mark) {
             Some(slot) => drop_slot(&mut self.buckets, slot),
             None => false,
@@ -158,9 +160,10 @@ pub(crate) fn may_lead(slots: &[u64], tag: u64) -> bool
 }
 
 /// The slot of a mark that is put under a tag. None where the mark would not be read in it again: it is
-/// too large, or all bits are 0.
+/// too large, or all bits are 0. There is no other slot of it under this tag.
 fn slot_of(tag: u64, mark: u64) -> Option<u64>
-    ensures { IfSome result (λ slot. marked_in tag slot ≡ Some mark) }
+    ensures read { IfSome result (λ slot. marked_in tag slot ≡ Some mark) }
+    ensures only { (s : ℕ) → IsTrue (slot_leads tag (λ m. m == mark) s) → result ≡ Some s }
 {
     let slot = (tag % SHORTS).wrapping_mul(MARKS).wrapping_add(mark);
     (mark_in(slot, tag) == Some(mark)).then_some(slot)
@@ -211,10 +214,13 @@ fn place_in(slots: &[u64], slot: u64) -> Option<usize>
     slots.iter().position(|s| *s == slot)
 }
 
-/// Replaces the first slot of a bucket that is as said by another, and answers whether there was one.
+/// Replaces the first slot of a bucket that is as said by another, and answers whether there was one. Where
+/// there was none, all are as they were.
 fn replace_in(bucket: &mut [u64; WIDTH], was: u64, slot: u64) -> bool
     ensures left { (q : ℕ → Bool) → IsFalse (q was) → IsTrue (list_any q bucket.old) → IsTrue (list_any q bucket.new) }
     ensures there { IsTrue result → (q : ℕ → Bool) → IsTrue (q slot) → IsTrue (list_any q bucket.new) }
+    ensures taken { taken_in bucket.new + (if result then counted was else 0) ≡ taken_in bucket.old + (if result then counted slot else 0) }
+    ensures none { IsFalse result → (bucket.new ≡ bucket.old) × IsFalse (list_any (λ s. s == was) bucket.old) }
 {
     match place_in(bucket, was) {
         Some(at) => {
@@ -231,6 +237,9 @@ fn replace_at(buckets: &mut Vec<[u64; WIDTH]>, at: usize, was: u64, slot: u64) -
     ensures left { (i : ℕ) (q : ℕ → Bool) → IsFalse (q was) → IsTrue (list_any q (bucket_at buckets.old.items i))
         → IsTrue (list_any q (bucket_at buckets.new.items i)) }
     ensures there { IsTrue result → (q : ℕ → Bool) → IsTrue (q slot) → IsTrue (list_any q (bucket_at buckets.new.items at)) }
+    ensures taken { sum_by taken_in buckets.new.items + (if result then counted was else 0)
+        ≡ sum_by taken_in buckets.old.items + (if result then counted slot else 0) }
+    ensures none { IsFalse result → (buckets.new.items ≡ buckets.old.items) × IsFalse (list_any (λ s. s == was) (bucket_at buckets.old.items at)) }
 {
     match buckets.get_mut(at) {
         Some(bucket) => replace_in(bucket, was, slot),
@@ -239,12 +248,12 @@ fn replace_at(buckets: &mut Vec<[u64; WIDTH]>, at: usize, was: u64, slot: u64) -
 }
 
 /// Puts what stands in a slot into a free slot of the emptier one of its buckets, or its mark with the
-/// older ones where both are full. It takes no memory.
+/// older ones where both are full. There is at most one mark more. It takes no memory.
 fn put_slot(buckets: &mut Vec<[u64; WIDTH]>, older: &mut Vec<u64>, slot: u64)
     requires { vec_len older.old < vec_capacity older.old }
-    ensures older { (p : ℕ → Bool) → IsTrue (list_any p older.old.items) → IsTrue (list_any p older.new.items) }
     ensures leads { (t : ℕ) (p : ℕ → Bool) → IsTrue (leads_in buckets.old.items older.old.items t p || slot_leads t p slot)
         → IsTrue (leads_in buckets.new.items older.new.items t p) }
+    ensures marks { marks_in buckets.new.items older.new.items ≤ marks_in buckets.old.items older.old.items + 1 }
 {
     let count = buckets.len();
     let first = first_of(slot / MARKS, count);
@@ -267,37 +276,45 @@ fn drop_slot(buckets: &mut Vec<[u64; WIDTH]>, slot: u64) -> bool
     ensures count { length buckets.new.items ≡ length buckets.old.items }
     ensures left { (i : ℕ) (q : ℕ → Bool) → IsFalse (q slot) → IsTrue (list_any q (bucket_at buckets.old.items i))
         → IsTrue (list_any q (bucket_at buckets.new.items i)) }
+    ensures taken { sum_by taken_in buckets.new.items + (if result then counted slot else 0) ≡ sum_by taken_in buckets.old.items }
+    ensures none { IsFalse result
+        → IsFalse (list_any (λ s. s == slot) (bucket_at buckets.old.items (first_place (slot / MARKS) (length buckets.old.items))))
+        × IsFalse (list_any (λ s. s == slot) (bucket_at buckets.old.items (second_place (slot / MARKS) (length buckets.old.items)))) }
 {
     let count = buckets.len();
     replace_at(buckets, first_of(slot / MARKS, count), slot, 0)
         || replace_at(buckets, second_of(slot / MARKS, count), slot, 0)
 }
 
-/// Makes half as many buckets more as there are, and puts what stands in them anew. After an `Err` they are
-/// as they were, and some marks may be among the older ones too.
+/// Makes half as many buckets more as there are, and puts what stands in them anew. After an `Err` all is as
+/// it was.
 fn widen(buckets: &mut Vec<[u64; WIDTH]>, older: &mut Vec<u64>) -> Result<(), NoMemory>
-    ensures { (t : ℕ) (p : ℕ → Bool) → IsTrue (leads_in buckets.old.items older.old.items t p)
+    ensures leads { (t : ℕ) (p : ℕ → Bool) → IsTrue (leads_in buckets.old.items older.old.items t p)
         → IsTrue (leads_in buckets.new.items older.new.items t p) }
+    ensures marks { marks_in buckets.new.items older.new.items ≤ marks_in buckets.old.items older.old.items }
 {
     let count = buckets.len();
     let alloc = *buckets.allocator();
     let more = count.saturating_add(count / 2 + 1);
     let mut wider = Vec::with_capacity(alloc, more)?;
     wider.resize(more, [0; WIDTH])?;
-    spread(buckets, &mut wider, older)?;
+    let mut over = Vec::new(alloc);
+    spread(buckets, &mut wider, &mut over)?;
+    older.append(&mut over)?;
     *buckets = wider;
     Ok(())
 }
 
-/// Puts what stands in some buckets into others.
+/// Puts what stands in some buckets into others, and the marks that find both theirs full with the older ones.
 fn spread(
     buckets: &Vec<[u64; WIDTH]>,
     wider: &mut Vec<[u64; WIDTH]>,
     older: &mut Vec<u64>,
 ) -> Result<(), NoMemory>
-    ensures older { (p : ℕ → Bool) → IsTrue (list_any p older.old.items) → IsTrue (list_any p older.new.items) }
     ensures leads { OnOk result ((i t : ℕ) (p : ℕ → Bool) → IsTrue (list_any (slot_leads t p) (bucket_at buckets.now.items i))
         → IsTrue (leads_in wider.new.items older.new.items t p)) }
+    ensures marks { OnOk result (marks_in wider.new.items older.new.items
+        ≤ marks_in wider.old.items older.old.items + sum_by taken_in buckets.now.items) }
 {
     for bucket in buckets {
         spread_bucket(bucket, wider, older)?;
@@ -305,17 +322,17 @@ fn spread(
     Ok(())
 }
 
-/// Puts what stands in a bucket into others.
+/// Puts what stands in a bucket into others, likewise.
 fn spread_bucket(
     bucket: &[u64; WIDTH],
     wider: &mut Vec<[u64; WIDTH]>,
     older: &mut Vec<u64>,
 ) -> Result<(), NoMemory>
-    ensures older { (p : ℕ → Bool) → IsTrue (list_any p older.old.items) → IsTrue (list_any p older.new.items) }
     ensures kept { (t : ℕ) (p : ℕ → Bool) → IsTrue (leads_in wider.old.items older.old.items t p)
         → IsTrue (leads_in wider.new.items older.new.items t p) }
     ensures leads { OnOk result ((t : ℕ) (p : ℕ → Bool) → IsTrue (list_any (slot_leads t p) bucket.now)
         → IsTrue (leads_in wider.new.items older.new.items t p)) }
+    ensures marks { OnOk result (marks_in wider.new.items older.new.items ≤ marks_in wider.old.items older.old.items + taken_in bucket.now) }
 {
     for slot in bucket {
         if *slot != 0 {

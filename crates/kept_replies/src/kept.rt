@@ -2,7 +2,7 @@ ghost use Rattle.std.specs.Prelude.{◌≡◌, ◌+◌, ◌<◌, ◌≤◌, ◌^
 ghost use Rattle.std.specs.VecDeque.{deque_len, deque_capacity};
 ghost use Rattle.mc_requests.specs.Requests.{asked_of};
 ghost use Rattle.kept_replies.specs.Requests.{text_size};
-ghost use Rattle.kept_replies.specs.Index.{slot_leads};
+ghost use Rattle.kept_replies.specs.Index.{slot_leads, marks};
 ghost use Rattle.kept_replies.specs.Store.{AreInOrder, IsPlaceOf, has_mark, is_repeat};
 ghost use Rattle.std.specs.Bool.{then_some};
 ghost use Rattle.std.specs.List.{list_any};
@@ -34,7 +34,7 @@ pub struct Kept {
     replies: VecDeque<Reply>,
     /// No moment is below one before it, as it is in a house: those that are over stand first then.
     in_order: bool,
-    /// The marks of the replies.
+    /// The marks of the replies, and no others.
     index: Index,
     /// Empty, for the bytes of the next reply.
     spare: Vec<u8>,
@@ -94,7 +94,7 @@ impl Kept {
             return Ok(());
         }
         make_place(&mut self.replies)?;
-        self.index.reserve()?;
+        self.index.reserve(self.replies.len())?;
         make_box(&mut self.place, *self.spare.allocator())?;
         if self.spare.capacity() != size {
             let alloc = *self.spare.allocator();
@@ -356,7 +356,7 @@ fn goes_last(in_order: bool, replies: &VecDeque<Reply>, at: usize, moment: Momen
             .is_none_or(|last| last.moment().seconds() <= moment.seconds())
 }
 
-/// Drops each reply that is not in time, with its mark. Where the moments are in order it looks at
+/// Drops each reply that is not in time, with its mark, so that there are no more marks than replies. Where the moments are in order it looks at
 /// those that go and at one more, and else at all.
 fn drop_over(
     replies: &mut VecDeque<Reply>,
@@ -368,8 +368,10 @@ fn drop_over(
     requires rising { AreRising replies.old.items }
     requires order { IsTrue in_order → AreInOrder replies.old.items }
     requires marked { All (λ r. IsTrue (has_mark index.old r)) replies.old.items }
+    requires few { marks index.old ≤ length replies.old.items }
     ensures replies { replies.new.items ≡ filter (is_in_time keep now) replies.old.items }
     ensures marked { All (λ r. IsTrue (has_mark index.new r)) replies.new.items }
+    ensures few { marks index.new ≤ length replies.new.items }
 {
     let mut at = 0;
     while let Some(reply) = replies.get(at) {

@@ -1,10 +1,11 @@
 use Rattle.std.proofs.Common.{◌≡◌, ◌<◌, ◌≤◌, false, length, get_or, sym, ap, ◌∙◌, arith, rules}
 use Rattle.std.specs.List.{remove}
 use Rattle.std.proofs.lemmas.List.Edits.{length-remove, get_or-remove_below}
-use Rattle.kept_replies.specs.Kept.{is_in_time}
+use Rattle.kept_replies.specs.Kept.{KeptReply, is_in_time}
+use Rattle.kept_replies.specs.Index.{request_tag}
 use Rattle.kept_replies.proofs.ReplyLaws.{number}
 use Rattle.kept_replies.proofs.SearchLaws.{filter_all}
-use Rattle.kept_replies.proofs.ForgetLaws.{filter-remove, AreRising-remove, AreInOrder-remove, marked-remove, all_in_time}
+use Rattle.kept_replies.proofs.ForgetLaws.{filter-remove, AreRising-remove, AreInOrder-remove, marked-remove, marked_at, all_in_time}
 use Rattle.kept_replies.proofs.kept.drop_over.Goals as goal
 use Rattle.kept_replies.proofs.kept.drop_over.Goals.{After-is_in_time}
 
@@ -27,6 +28,8 @@ loop-reply-preserved-then-not-is_in_time c =
     let fails : is_in_time c.args.keep c.args.now (get_or rs at r) ≡ false = judged looked ∙ c.if-not-is_in_time.true in
     let left : c.drop_at.new.replies.items ≡ remove rs at = c.drop_at.ensures in
     let its : c.number.result ≡ number (get_or rs at r) = c.number.ensures ∙ ap number (there looked) in
+    let tag : c.tag_of.result ≡ request_tag (get_or rs at r).asked = c.tag_of.ensures ∙ ap request_tag c.request.ensures ∙ ap (λ (q : KeptReply). request_tag q.asked) (there looked) in
+    let led = marked_at rs at c.tag_of.result c.number.result r c.loop-reply.index (within looked) tag its c.loop-reply.invariant.marked in
     rw left (record {
       within = omega (arith, length-remove rs at (within looked), within looked);
       front = λ k d lt. ap (is_in_time c.args.keep c.args.now) (get_or-remove_below rs at d k lt (within looked)) ∙ c.loop-reply.invariant.front k d lt;
@@ -34,7 +37,8 @@ loop-reply-preserved-then-not-is_in_time c =
       first = c.loop-reply.invariant.first;
       order = λ noted. AreInOrder-remove rs at (c.loop-reply.invariant.order noted);
       rising = AreRising-remove rs at c.loop-reply.invariant.rising;
-      marked = marked-remove rs at c.number.result r c.loop-reply.index c.drop_mark.new.self c.loop-reply.invariant.rising (within looked) its c.drop_mark.ensures c.loop-reply.invariant.marked;
+      marked = marked-remove rs at c.number.result r c.loop-reply.index c.drop_mark.new.self c.loop-reply.invariant.rising (within looked) its c.drop_mark.ensures.left c.loop-reply.invariant.marked;
+      few = omega (arith, length-remove rs at (within looked), c.drop_mark.ensures.fewer led, c.loop-reply.invariant.few);
     })
 
 pub returns-then-in_order-clause-replies : goal.returns-then-in_order-clause-replies

@@ -1,9 +1,10 @@
 use Rattle.std.proofs.Common.{◌≡◌, ℕ, ◌<◌, ◌≤◌, ◌-◌, true, length, get_or, filter, All}
 use Rattle.kept_replies.specs.Kept.{KeptReply, AreRising, is_in_time}
+use Rattle.kept_replies.specs.Index.{marks}
 use Rattle.kept_replies.specs.Store.{AreInOrder, has_mark}
 use Rattle.kept_replies.proofs.kept.drop_over.Given as goal
 
--- those before the place are in time, and those that are in time are as at first
+-- those before the place are in time, those that are in time are as at first, and there are no more marks than replies
 abbrev pub invariant-loop-reply : goal.invariant-loop-reply
 invariant-loop-reply l = record {
   within : l.at ≤ length l.replies.items;
@@ -13,6 +14,7 @@ invariant-loop-reply l = record {
   order : l.in_order ≡ true → AreInOrder l.replies.items;
   rising : AreRising l.replies.items;
   marked : All (λ r. has_mark l.index r ≡ true) l.replies.items;
+  few : marks l.index ≤ length l.replies.items;
 }
 
 abbrev pub decreases-loop-reply : goal.decreases-loop-reply

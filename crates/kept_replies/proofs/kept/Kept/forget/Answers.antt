@@ -16,6 +16,7 @@ invariant_of-self c =
       order = λ noted. rw c.drop_over.ensures.replies (AreInOrder-filter test rs (c.self.invariant.order noted));
       own = rw c.drop_over.ensures.replies (own-filter test rs c.self.invariant.own);
       marked = c.drop_over.ensures.marked;
+      few = c.drop_over.ensures.few;
       empty = c.self.invariant.empty;
       short = c.self.invariant.short;
     }

@@ -1,6 +1,7 @@
-use Rattle.std.proofs.Common.{◌≡◌, ◌+◌, ◌&&◌, is_some, refl, sym, ap, ◌∙◌, arith}
+use Rattle.std.proofs.Common.{◌≡◌, ◌+◌, ◌&&◌, is_some, length, refl, sym, ap, ◌∙◌, arith}
 use Rattle.std.specs.List.{insert}
 use Rattle.std.proofs.lemmas.Bool.{eq-eqb}
+use Rattle.std.proofs.lemmas.List.Edits.{length-insert}
 use Rattle.mc_requests.specs.Requests.{asked_of}
 use Rattle.kept_replies.specs.Requests.{text_size}
 use Rattle.kept_replies.specs.Kept.{KeptReply, AreRising, inserted, entry_size}
@@ -37,7 +38,8 @@ invariant_of-self c =
           let last = c.goes_last-self-inside.ensures noted in
           rw (now_kept c) (order-inserted (new c) rs c.place_of-at.result (put_there c) last.0 last.1 last.2);
       own = rw (now_kept c) (own-inserted (new c) rs (rw (← c.self.view_is) at c.requires.new_request) c.self.invariant.own);
-      marked = rw (now_kept c) (marked-inserted (new c) rs c.tag_of.result c.args.e.number c.self.inside.index c.put.new.self c.tag_of.ensures (eq-eqb c.args.e.number c.args.e.number refl) c.put.ensures c.self.invariant.marked);
+      marked = rw (now_kept c) (marked-inserted (new c) rs c.tag_of.result c.args.e.number c.self.inside.index c.put.new.self c.tag_of.ensures (eq-eqb c.args.e.number c.args.e.number refl) c.put.ensures.leads c.self.invariant.marked);
+      few = omega (arith, ap length (c.in-Ok.ensures.items), length-insert rs c.place_of-at.result c.of.result (omega (arith, c.place_of-at.ensures.within, c.self.inside.replies.ok)), c.put.ensures.marks, c.self.invariant.few);
       empty = rw c.replace-buffer.ensures.after c.new.ensures.items;
       short = rw c.replace-buffer.ensures.after (omega (arith, c.new.ensures.capacity));
     }
