@@ -65,12 +65,13 @@ impl Index {
 
     /// Makes a place for one more mark, where so many replies are kept. The marks lead to what they did, and are
     /// no more than they were, after an `Err` too. There are more buckets only where so many replies are
-    /// twelve for each.
+    /// twelve for each, and then half as many and one more at most.
     pub(crate) fn reserve(&mut self, kept: usize) -> Result<(), NoMemory>
         ensures leads { (t : ℕ) (p : ℕ → Bool) → IsTrue (leads self.old t p) → IsTrue (leads self.new t p) }
         ensures marks { marks self.new ≤ marks self.old }
         ensures place { OnOk result (IsTrue self.new.has_place) }
         ensures buckets { kept < CROWD * length self.old.buckets → self.new.buckets ≡ self.old.buckets }
+        ensures grown { length self.new.buckets ≤ length self.old.buckets + (length self.old.buckets / 2 + 1) }
     {
         if kept / CROWD >= self.buckets.len() {
             widen(&mut self.buckets, &mut self.older)?;
@@ -251,6 +252,7 @@ fn replace_at(buckets: &mut Vec<[u64; WIDTH]>, at: usize, was: u64, slot: u64) -
 /// older ones where both are full. There is at most one mark more. It takes no memory.
 fn put_slot(buckets: &mut Vec<[u64; WIDTH]>, older: &mut Vec<u64>, slot: u64)
     requires { vec_len older.old < vec_capacity older.old }
+    ensures count { length buckets.new.items ≡ length buckets.old.items }
     ensures leads { (t : ℕ) (p : ℕ → Bool) → IsTrue (leads_in buckets.old.items older.old.items t p || slot_leads t p slot)
         → IsTrue (leads_in buckets.new.items older.new.items t p) }
     ensures marks { marks_in buckets.new.items older.new.items ≤ marks_in buckets.old.items older.old.items + 1 }
@@ -292,6 +294,7 @@ fn widen(buckets: &mut Vec<[u64; WIDTH]>, older: &mut Vec<u64>) -> Result<(), No
     ensures leads { (t : ℕ) (p : ℕ → Bool) → IsTrue (leads_in buckets.old.items older.old.items t p)
         → IsTrue (leads_in buckets.new.items older.new.items t p) }
     ensures marks { marks_in buckets.new.items older.new.items ≤ marks_in buckets.old.items older.old.items }
+    ensures count { length buckets.new.items ≤ length buckets.old.items + (length buckets.old.items / 2 + 1) }
 {
     let count = buckets.len();
     let alloc = *buckets.allocator();
@@ -315,6 +318,7 @@ fn spread(
         → IsTrue (leads_in wider.new.items older.new.items t p)) }
     ensures marks { OnOk result (marks_in wider.new.items older.new.items
         ≤ marks_in wider.old.items older.old.items + sum_by taken_in buckets.now.items) }
+    ensures count { length wider.new.items ≡ length wider.old.items }
 {
     for bucket in buckets {
         spread_bucket(bucket, wider, older)?;
@@ -333,6 +337,7 @@ fn spread_bucket(
     ensures leads { OnOk result ((t : ℕ) (p : ℕ → Bool) → IsTrue (list_any (slot_leads t p) bucket.now)
         → IsTrue (leads_in wider.new.items older.new.items t p)) }
     ensures marks { OnOk result (marks_in wider.new.items older.new.items ≤ marks_in wider.old.items older.old.items + taken_in bucket.now) }
+    ensures count { length wider.new.items ≡ length wider.old.items }
 {
     for slot in bucket {
         if *slot != 0 {

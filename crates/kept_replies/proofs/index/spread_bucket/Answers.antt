@@ -24,6 +24,7 @@ loop-slot-preserved c =
             kept = λ t p lead. kept t p (inv.kept t p lead);
             leads = λ t p. below_more _ _ (λ k lt lead. kept t p (inv.leads t p k lt lead)) (λ lead. w.put_slot.ensures.leads t p (or_right _ (slot_leads t p (get_or slots at 0)) lead));
             marks = omega (arith, more, counted_other (get_or slots at 0) w.if-slot-ne0.true, ap length before, w.put_slot.ensures.marks, inv.marks);
+            count = w.put_slot.ensures.count ∙ inv.count;
           })
       | else-slot-ne0 w ↦
           let more = sum_by-drop_more counted slots at 0 lt in
@@ -31,6 +32,7 @@ loop-slot-preserved c =
             kept = inv.kept;
             leads = λ t p. below_more _ _ (inv.leads t p) (λ lead. absurd (both_ways (slot_leads t p (get_or slots at 0)) (ap (slot_leads t p) w.if-slot-ne0.false ∙ empty_leads t p) lead));
             marks = omega (arith, more, ap counted w.if-slot-ne0.false, inv.marks);
+            count = inv.count;
           })
     ]
 

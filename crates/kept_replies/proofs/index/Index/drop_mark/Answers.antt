@@ -50,7 +50,7 @@ lowered c gone =
     elim c.match-slot_of.branch [
       | in-Some w ↦ rw w.self-inside-is (
         sum_less _ _ (counted w.in-Some.slot) w.drop_slot-had_slot.result w.drop_slot-had_slot.ensures.taken (sym w.had_slot-is ∙ gone)
-        (counted_one c.args.tag w.in-Some.slot c.args.mark w.in-Some.ensures.read),
+            (counted_one c.args.tag w.in-Some.slot c.args.mark w.in-Some.ensures.read),
         refl,
       )
       | in-None w ↦ absurd (both_ways c.match-slot_of.had_slot w.had_slot-is gone)
