@@ -4,3 +4,4 @@ pub mod LinkLemmas
 pub mod RequestLemmas
 pub mod RunLemmas
 pub mod PaymentRuns
+pub mod WireLemmas

@@ -82,7 +82,7 @@ played limits w i s steps whole before after got items house texts replied heard
 abbrev sessions_of : LinkView → Option (List Session)
 sessions_of v = v.sessions
 
-heard_served : (limits : Limits) (s : State) (steps : List (Did State)) (before after : LinkView) (c : IsServed (Step limits) OfLinks steps s before after) → IsHeard c.got steps before after
+pub heard_served : (limits : Limits) (s : State) (steps : List (Did State)) (before after : LinkView) (c : IsServed (Step limits) OfLinks steps s before after) → IsHeard c.got steps before after
 heard_served limits s steps before after c = elim c.to_end [
   | inl eof ↦ inr (ap sessions_of c.sent ∙ ap (λ (v : LinkView). (after_send (sent_of steps) v).sessions) eof)
   | inr stays ↦ inl (ap sessions_of c.sent ∙ ap (λ (v : LinkView). (after_send (sent_of steps) v).sessions) stays.0)
@@ -286,7 +286,7 @@ one_more : (before after : LinkView) (got : List ℕ) (f : Session → Session) 
 one_more before after got f is None were ss told = absurd cc
 one_more before after got f is (Some rs) were ss told = record { earlier = rs; last = f fresh; were = were; are = sym (let same : rs ++ f fresh ∷ [] ≡ ss = cc in same); bytes = is }
 
-mapped_last : (g : Session → Session) (x : Session) (o : Option (List Session)) → option_map (on_last g) (option_map (λ xs. xs ++ x ∷ []) o) ≡ option_map (λ xs. xs ++ g x ∷ []) o
+pub mapped_last : (g : Session → Session) (x : Session) (o : Option (List Session)) → option_map (on_last g) (option_map (λ xs. xs ++ x ∷ []) o) ≡ option_map (λ xs. xs ++ g x ∷ []) o
 mapped_last g x None = refl
 mapped_last g x (Some rs) = ap some (on_last_of g rs x)
   where

@@ -1,4 +1,4 @@
--- What a wallet's commands make of its book is a schedule.
+-- What a wallet's commands send, and what they make of its book, is a schedule.
 use Rattle.std.proofs.Common.{◌≡◌, ◌⊎◌, inl, inr, ℕ, ◌+◌, ◌<◌, ◌≤◌, ◌^◌, Bool, true, false, List, [], ◌∷◌, ◌++◌, length, Option, Some, None, Result, Ok, Err, refl, sym, ap, subst, ◌∙◌, arith, slice_get}
 use Rattle.std.specs.Prelude.{max, if◌then◌else◌}
 use Rattle.std.proofs.lemmas.Bool.{le-ltb}
@@ -7,6 +7,7 @@ use Rattle.mc_outside.specs.LinkView.{LinkView, Session, next_taken, after_recv,
 use Rattle.mc_requests.specs.declared.limits.TheConstants.Limits.{FULL, MOST_JOURNAL}
 use Rattle.mc_requests.specs.declared.refusal.Refusal.{Refusal}
 use Rattle.mc_requests.specs.declared.refusal.Refusal.TheVariants.{JournalFull}
+use Rattle.mc_requests.specs.declared.refusal.Refusal.TheVariants as refusals
 use Rattle.mc_records.specs.Entry.{Entry, Pend, moment_of, payload}
 use Rattle.mc_requests.specs.Errands as errands
 use Rattle.mc_requests.specs.Errands.{errand_text}
@@ -19,12 +20,17 @@ use Rattle.command_status.specs.declared.status.Status.{Status}
 use Rattle.command_status.specs.declared.status.Status.TheVariants as ends
 use Rattle.millicent_http.specs.Received.{Received}
 use Rattle.reply_reader.specs.Replies.{IsReply}
+use Rattle.reply_reader.proofs.ReplyLemmas.{one_reply, reply_not_bad, reply_not_short}
+use Rattle.wallet_model.specs.Follows.{IsWalletBook}
+use Rattle.wallet_model.proofs.BookLaws.{book_prefix}
 use Rattle.wallet_model.specs.Requests.{Pending, pending_of, pending_in, is_kept, oldest_kept}
 use Rattle.wallet_model.specs.Asks.{Asking, get, buy, draw, Offered, chosen, paid_with, pend_entry, request_bytes}
 use Rattle.wallet_model.specs.Settling.{check_of, settlement}
 use Rattle.wallet_book.specs.Kept.{kept_in}
 use Rattle.wallet_core.specs.OnDisk.{EncodesWallet}
-use Rattle.wallet_commands.specs.Payments.{Learned, Settles, Stays, Breaks, Learns}
+use Rattle.wallet_core.specs.Answers.{MayCheck}
+use Rattle.wallet_core.proofs.CallLaws.{checks_so}
+use Rattle.wallet_commands.specs.Payments.{Learned, Settles, Stays, Breaks, StaysKept, LinkBreaks, Learns}
 use Rattle.wallet_commands.specs.Paying.{ended_by, SettlesBy, EndsBy, UsesLink, PaysBy, RetriesBy}
 use Rattle.wallet_commands.specs.Saying.{contents_said, IsSaid}
 use Rattle.wallet_commands.proofs.KeptLemmas.{entered_is_kept, oldest_is_kept}
@@ -32,7 +38,7 @@ use Rattle.wallet_commands.proofs.PayLemmas.{asks}
 use Rattle.world_model.specs.Worlds.{World, CanBeAsked, clamped, wallet_time, with_wallet, with_reply}
 use Rattle.world_model.proofs.HouseSteps.{time_snoc}
 use Rattle.world_model.proofs.Lists.{get_last}
-use Rattle.world_laws.specs.Requests.{Leaves, IsReturned, UsedAs, IsAsked, PaidAs, PayingIsPlayed, TriedAs, TryingIsPlayed}
+use Rattle.world_laws.specs.Requests.{TellsKept, EndsSettled, IsReturn, UsedAs, IsAsked, PaidAs, PayingIsPlayed, TriedAs, TryingIsPlayed}
 
 -- ---- room
 
@@ -80,58 +86,48 @@ kept_is h n p is = by (is_kept h n) refl is
 
 -- ---- one link
 
-returned : (w : World) (j : ℕ) (h : History) (moment n : ℕ) (p : Pending) (r : Received) (bytes : List ℕ) (before after : LinkView) → slice_get w.wallets j ≡ Some h → IsKept h n p → IsReply bytes r → check_of p r ≡ None
-    → after.sessions ≡ (after_recv bytes (after_send (request_bytes p) (next_taken before))).sessions → IsReturned w j h moment n p before after (h ++ settlement h (wallet_time h moment) n p r ∷ [])
-returned w j h moment n p r bytes before after at kept reads checked heard = record {
-  bytes = bytes;
-  r = r;
-  heard = heard;
-  reads = reads;
-  is = refl;
-  returns = λ most. (
-    with_reply w bytes,
-    inl refl,
-    (
-      with_wallet (with_reply w bytes) j (h ++ settlement h (wallet_time h moment) n p r ∷ []),
-      inl (record {
-        h = h;
-        p = p;
-        r = r;
-        meets = record { bytes = bytes; reply = get_last w.replies bytes; reads = reads; wallet = at; kept = kept.kept; request = kept.request };
-        checked = checked;
-        room = fits_full h (settlement h (wallet_time h moment) n p r) most;
-        after = refl;
-      }),
-      refl,
-    ),
-  );
-}
-
--- What is left of a settlement, by how the command ended. What it said is no matter of the links.
-abbrev IsLeft : History → Entry → LinkView → DiskView → LinkView → Type 0
-IsLeft h e before d after = (EncodesWallet d h ⊎ Leaves d h (h ++ e ∷ [])) × (after.sessions ≡ before.sessions)
+returned : (w : World) (j : ℕ) (h : History) (moment n : ℕ) (p : Pending) (r : Received) (bytes : List ℕ) → slice_get w.wallets j ≡ Some h → IsKept h n p → IsReply bytes r → check_of p r ≡ None
+    → IsReturn w j h moment n bytes (settlement h (wallet_time h moment) n p r)
+returned w j h moment n p r bytes at kept reads checked most = (
+  with_reply w bytes,
+  inl refl,
+  (
+    with_wallet (with_reply w bytes) j (h ++ settlement h (wallet_time h moment) n p r ∷ []),
+    inl (record {
+      h = h;
+      p = p;
+      r = r;
+      meets = record { bytes = bytes; reply = get_last w.replies bytes; reads = reads; wallet = at; kept = kept.kept; request = kept.request };
+      checked = checked;
+      room = fits_full h (settlement h (wallet_time h moment) n p r) most;
+      after = refl;
+    }),
+    refl,
+  ),
+)
 
 abbrev sessions_of : LinkView → Option (List Session)
 sessions_of v = v.sessions
 
-left_settled : (h : History) (t n : ℕ) (p : Pending) (r : Received) (before after : LinkView) (status : Status) (d : DiskView) → SettlesBy h t n p r before status d after → IsLeft h (settlement h t n p r) before d after
+abbrev refused_with : Refusal → Status
+refused_with f = ends.Refused f
+
+-- it was added, or had no room
+abbrev IsAddedOr : History → Pending → Received → Entry → Status → DiskView → Type 0
+IsAddedOr h p r e status d = ((status ≡ ended_by p r) × EncodesWallet d (h ++ e ∷ [])) ⊎ ((f : Refusal) × (status ≡ ends.Refused f) × (fitted h FULL e ≡ Err (Refuse f)) × EncodesWallet d h)
+
+-- What is left of a settlement, by how the command ended. What it said is no matter of the links.
+left_settled : (h : History) (t n : ℕ) (p : Pending) (r : Received) (before after : LinkView) (status : Status) (d : DiskView) → SettlesBy h t n p r before status d after
+    → EndsSettled h p r (settlement h t n p r) status d × (after.sessions ≡ before.sessions)
 left_settled h t n p r before after status d by = go status by
   where
-    last : (status : Status) → IsSaid (contents_said p r) before after
-        × (((status ≡ ended_by p r) × EncodesWallet d (h ++ settlement h t n p r ∷ []))
-        ⊎ ((f : Refusal) × (status ≡ ends.Refused f) × (fitted h FULL (settlement h t n p r) ≡ Err (Refuse f)) × EncodesWallet d h))
-        → IsLeft h (settlement h t n p r) before d after
-    last status x =
-        let left : EncodesWallet d h ⊎ Leaves d h (h ++ settlement h t n p r ∷ []) = elim x.1 [
-          | inl a ↦ inr (inl a.1)
-          | inr b ↦ inl b.3
-        ] in
-        (left, ap sessions_of x.0)
+    last : (status : Status) → IsSaid (contents_said p r) before after × IsAddedOr h p r (settlement h t n p r) status d → IsAddedOr h p r (settlement h t n p r) status d × (after.sessions ≡ before.sessions)
+    last status x = (x.1, ap sessions_of x.0)
 
-    go : (status : Status) → SettlesBy h t n p r before status d after → IsLeft h (settlement h t n p r) before d after
-    go ends.LinkFault by = (inl by.0, ap sessions_of by.1.same)
-    go ends.NoMemory by = (inl by.0, ap sessions_of by.1)
-    go ends.DiskFault by = (inr (inr by.0.leaves), ap sessions_of by.1)
+    go : (status : Status) → SettlesBy h t n p r before status d after → EndsSettled h p r (settlement h t n p r) status d × (after.sessions ≡ before.sessions)
+    go ends.LinkFault by = (by.0, ap sessions_of by.1.same)
+    go ends.NoMemory by = (by.0, ap sessions_of by.1)
+    go ends.DiskFault by = (by.0.leaves, ap sessions_of by.1)
     go ends.Done by = last ends.Done by
     go (ends.Served k) by = last (ends.Served k) by
     go (ends.Founded name) by = last (ends.Founded name) by
@@ -145,26 +141,87 @@ left_settled h t n p r before after status d by = go status by
     go (ends.Refused f) by = last (ends.Refused f) by
     go (ends.Stranger name id) by = last (ends.Stranger name id) by
 
-used : {O : Type 0} (link : O → LinkView) (disk : O → DiskView) (j : ℕ) (h : History) (t moment n : ℕ) (p : Pending) (a : O) (clocked : LinkView) (status : Status) (b : O) → t ≡ wallet_time h moment → link a ≡ clocked → IsKept h n p
-    → UsesLink link disk h t n p a status b → UsedAs j h moment n p clocked (link b) (disk b)
-used link disk j h t moment n p a clocked status b time' linked kept uses w at = by uses.learned uses.learns uses.ends'
+-- a check that refuses a reply is told as such
+tells_check : (f : Refusal) → MayCheck f → TellsKept (ends.Refused f)
+tells_check refusals.BadReply may = tt
+tells_check refusals.Unproved may = tt
+tells_check f may = absurd may
+
+-- a reply stands at the front of the bytes, and its check refuses it: so it is of each that stands there
+none_passes : (p : Pending) (got : List ℕ) (r q : Received) (f : Refusal) → IsReply got r → check_of p r ≡ Some f → IsReply got q → check_of p q ≡ None → ⊥
+none_passes p got r q f reads refused other passes =
+    let same : check_of p q ≡ check_of p r = ap (check_of p) (one_reply got q r other reads) in
+    never (sym passes ∙ same ∙ refused)
   where
-    by : (learned : Learned) → Learns p learned (link a) uses.middle → EndsBy h t n p learned uses.middle status (disk b) (link b)
-        → EncodesWallet (disk b) h ⊎ ((g : History) × IsReturned w j h moment n p clocked (link b) g × Leaves (disk b) h g)
-    by (Stays f) learns e = inl e.1
-    by Breaks learns e = inl e.1
-    by (Settles r) learns e =
-        let left : IsLeft h (settlement h (wallet_time h moment) n p r) uses.middle (disk b) (link b) =
-        left_settled h (wallet_time h moment) n p r uses.middle (link b) status (disk b) (subst (λ (u : ℕ). SettlesBy h u n p r uses.middle status (disk b) (link b)) time' e) in
-        let got : List ℕ = learns.0.got in
-        let heard : (link b).sessions ≡ (after_recv got (after_send (request_bytes p) (next_taken clocked))).sessions =
-        left.1 ∙ ap sessions_of learns.0.ends.1 ∙ ap (λ (v : LinkView). (after_recv got (after_send (request_bytes p) (next_taken v))).sessions) linked in
-        elim left.0 [
-          | inl stays ↦ inl stays
-          | inr more ↦ inr (h ++ settlement h (wallet_time h moment) n p r ∷ [], returned w j h moment n p r got clocked (link b) at kept learns.0.ends.0 learns.1 heard, more)
-        ]
+    never : None ≡ Some f → ⊥
+    never is = cc is
+
+module _ (j : ℕ) (h : History) (moment n : ℕ) (p : Pending) (before middle after : LinkView) (status : Status) (d : DiskView) where
+  -- what was learned on the link kept the request
+  stays_kept : (f : Refusal) → StaysKept p f before middle → (status ≡ ends.Refused f) × EncodesWallet d h × (after ≡ middle) → UsedAs j h moment n p before after status d
+  stays_kept f (inl none) by = inl (inl (record { same = ap sessions_of by.2 ∙ ap sessions_of none.1; told = inl (by.0 ∙ ap refused_with none.0) }), by.1)
+  stays_kept f (inr (inl none)) by =
+      inr (
+        none.1.got,
+        inr (ap sessions_of by.2 ∙ ap sessions_of none.1.ends.1),
+        inl (record { none = λ r is passes. reply_not_short none.1.got r is none.1.ends.0; told = subst TellsKept (sym (by.0 ∙ ap refused_with none.0)) tt }, by.1),
+      )
+  stays_kept f (inr (inr (inl bad))) by =
+      inr (
+        bad.1.got,
+        inl (ap sessions_of by.2 ∙ ap sessions_of bad.1.ends.1),
+        inl (record { none = λ r is passes. reply_not_bad bad.1.got r is bad.1.ends.0; told = subst TellsKept (sym (by.0 ∙ ap refused_with bad.0)) tt }, by.1),
+      )
+  stays_kept f (inr (inr (inr (r, read, refused)))) by =
+      inr (
+        read.got,
+        inl (ap sessions_of by.2 ∙ ap sessions_of read.ends.1),
+        inl (record { none = λ q is passes. none_passes p read.got r q f read.ends.0 refused is passes; told = subst TellsKept (sym by.0) (tells_check f (checks_so p r f refused)) }, by.1),
+      )
+
+  -- the link failed
+  breaks_kept : LinkBreaks p before middle → (status ≡ ends.LinkFault) × EncodesWallet d h × (after ≡ middle) → UsedAs j h moment n p before after status d
+  breaks_kept (inl none) by = inl (inl (record { same = ap sessions_of by.2 ∙ ap sessions_of none.same; told = inr by.0 }), by.1)
+  breaks_kept (inr (inl some)) by = inl (inr (record { n = some.n; part = some.part; sent = ap sessions_of by.2 ∙ ap sessions_of some.fault.same; told = by.0 }), by.1)
+  breaks_kept (inr (inr read)) by =
+      inr (
+        read.got,
+        inl (ap sessions_of by.2 ∙ ap sessions_of read.ends.1.same),
+        inl (record { none = λ r is passes. reply_not_short read.got r is read.ends.0; told = subst TellsKept (sym by.0) tt }, by.1),
+      )
+
+  -- the reply settles it
+  settles_kept : (t : ℕ) (r : Received) → t ≡ wallet_time h moment → IsKept h n p → Learns p (Settles r) before middle → SettlesBy h t n p r middle status d after → UsedAs j h moment n p before after status d
+  settles_kept t r time' kept learns by =
+      let got : List ℕ = learns.0.got in
+      let left : EndsSettled h p r (settlement h (wallet_time h moment) n p r) status d × (after.sessions ≡ middle.sessions) =
+      left_settled h (wallet_time h moment) n p r middle after status d (subst (λ (u : ℕ). SettlesBy h u n p r middle status d after) time' by) in
+      inr (
+        got,
+        inl (left.1 ∙ ap sessions_of learns.0.ends.1),
+        inr (record { r = r; reads = learns.0.ends.0; checked = learns.1; returns = λ w at. returned w j h moment n p r got at kept learns.0.ends.0 learns.1; ends' = left.0 }),
+      )
+
+used : {O : Type 0} (link : O → LinkView) (disk : O → DiskView) (j : ℕ) (h : History) (t moment n : ℕ) (p : Pending) (a : O) (clocked : LinkView) (status : Status) (b : O) → t ≡ wallet_time h moment → link a ≡ clocked → IsKept h n p
+    → UsesLink link disk h t n p a status b → UsedAs j h moment n p clocked (link b) status (disk b)
+used link disk j h t moment n p a clocked status b time' linked kept uses =
+    subst (λ (v : LinkView). UsedAs j h moment n p v (link b) status (disk b)) linked (by uses.learned uses.learns uses.ends')
+  where
+    by : (learned : Learned) → Learns p learned (link a) uses.middle → EndsBy h t n p learned uses.middle status (disk b) (link b) → UsedAs j h moment n p (link a) (link b) status (disk b)
+    by (Stays f) learns e = stays_kept j h moment n p (link a) uses.middle (link b) status (disk b) f learns e
+    by Breaks learns e = breaks_kept j h moment n p (link a) uses.middle (link b) status (disk b) learns e
+    by (Settles r) learns e = settles_kept j h moment n p (link a) uses.middle (link b) status (disk b) t r time' kept learns e
 
 -- ---- get, buy, draw
+
+-- a book that ends with a request is a wallet's without it
+book_before : (h : History) (e : Entry) (p : Pending) → IsWalletBook (h ++ e ∷ []) → pending_of e ≡ Some p → IsWalletBook h
+book_before [] e p book is = first e book is
+  where
+    first : (e : Entry) → IsWalletBook (e ∷ []) → pending_of e ≡ Some p → IsWalletBook []
+    first (Pend m ask peer target scrip secret) book is = let no = book.0.allowed in absurd (cc no)
+    first e book is = absurd (cc is)
+book_before (x ∷ xs) e p book is = book_prefix x xs (e ∷ []) book
 
 asked : (w : World) (j : ℕ) (h : History) (asking : Asking) (moment : ℕ) (e : Entry) (p : Pending) → slice_get w.wallets j ≡ Some h → CanBeAsked asking → moment < 2 ^ 35
     → pend_entry h (max (time h) moment) asking ≡ Ok e → pending_of e ≡ Some p → IsAsked w j h asking moment e p
@@ -176,16 +233,21 @@ asked w j h asking moment e p at can lt pends request =
     }
 
 pub paying_is_played : {O : Type 0} (link : O → LinkView) (disk : O → DiskView) → PayingIsPlayed link disk
-paying_is_played link disk w j h asking moment a clocked status b at lawful can lt pays = by (pend_entry h (max (time h) moment) asking) refl pays
+paying_is_played link disk w j h asking moment a clocked status b at can lt pays = by (pend_entry h (max (time h) moment) asking) refl pays
   where
-    by : (todo : Result Entry Refusal) → pend_entry h (max (time h) moment) asking ≡ todo → PaysBy link disk h (max (time h) moment) todo a clocked status b → PaidAs w j h asking moment clocked (link b) (disk b)
-    by (Err f) is x = inl x.1.left
-    by (Ok e) is (inl x) = inl x.1.left
+    at_time : (todo : Result Entry Refusal) → pend_entry h (max (time h) moment) asking ≡ todo → pend_entry h (wallet_time h moment) asking ≡ todo
+    at_time todo is = subst (λ (t : ℕ). pend_entry h t asking ≡ todo) (sym (moment_is h moment lt)) is
+
+    by : (todo : Result Entry Refusal) → pend_entry h (max (time h) moment) asking ≡ todo → PaysBy link disk h (max (time h) moment) todo a clocked status b → PaidAs w j h asking moment clocked (link b) status (disk b)
+    by (Err f) is (inl none, stays) = inl (inr (f, none, inl (at_time (Err f) is)), stays.link', stays.left)
+    by (Err f) is (inr starved, stays) = inl (inl starved, stays.link', stays.left)
+    by (Ok e) is (inl (inl starved, stays)) = inl (inl starved, stays.link', stays.left)
+    by (Ok e) is (inl (inr (f, told, full), stays)) = inl (inr (f, told, inr (e, at_time (Ok e) is, full)), stays.link', stays.left)
     by (Ok e) is (inr (inl x)) =
         let p = asks h (max (time h) moment) asking e is in
-        inr (e, p.0, asked w j h asking moment e p.0 at can lt is p.1, inl (inr x.1.left.leaves))
+        inr (e, p.0, asked w j h asking moment e p.0 at can lt is p.1, inl (x.0, x.1.link', x.1.left.leaves))
     by (Ok e) is (inr (inr x)) =
-        let kept = kept_is (h ++ e ∷ []) (length h) x.p (entered_is_kept h e x.p lawful x.request) in
+        let kept = kept_is (h ++ e ∷ []) (length h) x.p (entered_is_kept h e x.p (book_before h e x.p x.stands.lawful x.request) x.request) in
         inr (
           e,
           x.p,
@@ -198,12 +260,13 @@ paying_is_played link disk w j h asking moment a clocked status b at lawful can 
 pub trying_is_played : {O : Type 0} (link : O → LinkView) (disk : O → DiskView) → TryingIsPlayed link disk
 trying_is_played link disk w j h peer moment a clocked status b at lt tries = by (oldest_kept h peer) refl tries
   where
-    by : (o : Option (ℕ × Pending)) → oldest_kept h peer ≡ o → RetriesBy link disk h (max (time h) moment) o a clocked status b → TriedAs w j h peer moment clocked (link b) (disk b)
-    by None is x = inl x.1.left
+    by : (o : Option (ℕ × Pending)) → oldest_kept h peer ≡ o → RetriesBy link disk h (max (time h) moment) o a clocked status b → TriedAs w j h peer moment clocked (link b) status (disk b)
+    by None is x = inl (is, x.0, x.1.link', x.1.left)
     by (Some k) is x =
         inr (
           k.0,
           k.1,
+          is,
           record { h = h; number = k.0; p = k.1; wallet = at; oldest = is; after = refl },
           used link disk j h (max (time h) moment) moment k.0 k.1 x.kept clocked status b (sym (moment_is h moment lt)) x.link' (kept_is h k.0 k.1 (oldest_is_kept h peer k is)) x.since,
         )

@@ -1,3 +1,4 @@
 pub mod Links
 pub mod Requests
 pub mod Runs
+pub mod Wires

@@ -10,7 +10,6 @@ use Rattle.command_status.specs.declared.status.Status.{Status}
 use Rattle.command_status.specs.declared.status.Status.TheVariants as ends
 use Rattle.house_core.specs.Session.{State}
 use Rattle.site_commands.specs.Serving.{EncodesLawful, ServesLinksOf}
-use Rattle.wallet_model.specs.Follows.{IsWalletBook}
 use Rattle.wallet_model.specs.Asks.{Asking}
 use Rattle.wallet_commands.specs.Paying.{Clocked, PaysBy, RetriesBy}
 use Rattle.wallet_model.specs.Asks.{pend_entry}
@@ -88,7 +87,7 @@ LeavesPayment w j d = (image : List ℕ) → d.leaves image → IsOfPayment w j 
 abbrev pub PayingIsARun : {O : Type 0} → (O → LinkView) → (O → DiskView) → Type 0
 PayingIsARun {O} link disk = (w : World) (j : ℕ) (asking : Asking) (bytes : List ℕ) (a : O) (status : Status) (b : O)
     → (c : Clocked link (λ h t clocked. PaysBy link disk h t (pend_entry h t asking) a clocked status b) bytes a)
-    → slice_get w.wallets j ≡ Some c.history → IsWalletBook c.history → CanBeAsked asking → c.moment < 2 ^ 35 → LeavesPayment w j (disk b)
+    → slice_get w.wallets j ≡ Some c.history → CanBeAsked asking → c.moment < 2 ^ 35 → LeavesPayment w j (disk b)
 
 -- and `wallet retry`
 abbrev pub TryingIsARun : {O : Type 0} → (O → LinkView) → (O → DiskView) → Type 0
