@@ -18,7 +18,7 @@ _millicent() {
         'vendor price') books=1 ;;
         'vendor licence') books=1 ;;
         'vendor mint') books=1 ;;
-        'vendor serve') books=1 ;;
+        'vendor serve') options='--door' books=1 ;;
         'vendor upgrade') books=1 ;;
         'vendor chain') books=1 ;;
         'vendor statement') books=1 ;;
@@ -29,7 +29,7 @@ _millicent() {
         'broker balance') books=1 ;;
         'broker licence') books=1 ;;
         'broker stock') books=1 ;;
-        'broker serve') books=1 ;;
+        'broker serve') options='--door' books=1 ;;
         'broker upgrade') books=1 ;;
         'broker chain') books=1 ;;
         'broker settle') books=1 ;;
@@ -67,7 +67,7 @@ _millicent_words() {
         word=${COMP_WORDS[place]}
         case $word in
             =) skip=1 ;;
-            --keep | --kind) skip=1 ;;
+            --keep | --kind | --door) skip=1 ;;
             --*) skip=0 ;;
             *)
                 [ "$skip" -eq 1 ] || before=$((before + 1))

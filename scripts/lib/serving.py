@@ -87,11 +87,48 @@ class Link:
         return self.receive()
 
 
+class Door:
+    """A connection to the door of a site's operator."""
+
+    def __init__(self, path, patience=30):
+        self.socket = socket.socket(socket.AF_UNIX)
+        self.socket.settimeout(patience)
+        self.socket.connect(path)
+        self.stream = self.socket.makefile("rb")
+
+    def __enter__(self):
+        return self
+
+    def __exit__(self, *_):
+        self.stream.close()
+        self.socket.close()
+
+    def tell(self, words, contents=b""):
+        """Tells the words of a command, with its input."""
+        self.socket.sendall(b"%d %s\n%s" % (len(contents), words.encode(), contents))
+
+    def answer(self):
+        """The status and the line of the next answer."""
+        status, length = self.whole(self.stream.readline()).split()
+        return int(status), self.stream.read(int(length)).decode()
+
+    def whole(self, line):
+        if not line.endswith(b"\n"):
+            raise ConnectionError("the connection ended before the answer did")
+        return line
+
+    def ask(self, words, contents=b""):
+        self.tell(words, contents)
+        return self.answer()
+
+
 class Site:
     """A site of a role, whose book lies in a folder."""
     role = None
     # How its programs are run besides.
     how = {}
+    # Where its operator gives commands while it is served, if anywhere.
+    door = None
 
     def __init__(self, folder, name):
         self.book = os.path.join(folder, name + ".book")
@@ -113,6 +150,7 @@ class Site:
 
     def launch(self, links=LINKS):
         words = [PROGRAM, self.role, "serve", self.book, "%s:%d" % self.address, str(links)]
+        words += ["--door", self.door] if self.door else []
         self.server = subprocess.Popen(words, stdout=subprocess.PIPE, **self.how)
 
     def start(self, links=LINKS):
@@ -122,8 +160,9 @@ class Site:
             self.launch(links)
             while self.server.poll() is None:
                 try:
-                    return Link(self.address).socket.close()
-                except ConnectionError:
+                    Link(self.address).socket.close()
+                    return self.door and Door(self.door).socket.close()
+                except (ConnectionError, FileNotFoundError):
                     time.sleep(0.005)
             if self.server.returncode != LINK_FAULT:
                 break

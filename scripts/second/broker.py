@@ -93,7 +93,11 @@ def unpaid(desk, kind, order):
 
 
 def balance(order, stage):
-    house = kept(stage, BROKER)
+    return tell_balance(kept(stage, BROKER), order)
+
+
+def tell_balance(house, order):
+    """The line of the balance of an account that is open."""
     if order.account not in house.history.desk.keys:
         raise Ends.refused(refused(40))
     return balance_line(house, order)
@@ -202,5 +206,17 @@ COMMANDS = {
     b"upgrade": (3, (), (), parse_upgrade, upgrade),
     b"chain": (1, (), (), vendor.parse_book, chain),
     b"settle": (1, (), (), vendor.parse_book, settle),
-    b"serve": (3, (), (), vendor.parse_serve, serve),
+    b"serve": (3, (b"--door",), (), vendor.parse_serve, serve),
+}
+
+# As those of a vendor.
+OPERATIONS = {
+    b"account": (None, lambda house, order, _: open_account(house, order)),
+    b"deposit": (None, lambda house, order, _: move(house, DEPOSIT, order)),
+    b"withdraw": (None, lambda house, order, _: move(house, WITHDRAW, order)),
+    b"balance": (None, lambda house, order, _: tell_balance(house, order)),
+    b"licence": (MOST_INPUT, lambda house, _, lines: add_licence(house, *read_licence(lines))),
+    b"stock": (MOST_INPUT, lambda house, order, lines: add_stock(house, order.vendor, lines)),
+    b"upgrade": (None, lambda house, order, _: upgrade_vendor(house, order.vendor, order.start)),
+    b"chain": (None, lambda house, order, _: chained(house)),
 }

@@ -8,6 +8,7 @@ from ledger import FULL, History, answer, follow, is_refusal, journal_full, refu
 from payloads import GOODS, SITE, SWITCH, TERMS, VENDOR, entry_of
 from refusals import refused
 from stage import DiskFault, LinkFault
+from words import BadWords
 
 PAGE = 4_096
 
@@ -30,6 +31,16 @@ class Ends(Exception):
     @classmethod
     def refused(cls, refusal):
         return cls(7, b"refused " + refusal.text().encode())
+
+
+def came(obey):
+    """The status and the line of what some words ask for."""
+    try:
+        return 0, obey()
+    except BadWords:
+        return 2, b"bad words\n"
+    except Ends as end:
+        return end.status, end.line
 
 
 class Server:
@@ -60,10 +71,10 @@ class Server:
         except LinkFault:
             return
 
-    def fail(self, reply):
-        """Sends the reply of a request whose entry the disk failed to write, and ends the serving."""
+    def fail(self, *reply):
+        """Sends the reply to what the disk failed to write an entry for, and ends the serving."""
         try:
-            self.send(reply)
+            self.send(*reply)
         except LinkFault:
             pass
         self.stage.end_link()
@@ -188,15 +199,19 @@ def chained(house):
 
 def received(stage, most):
     """What comes on the next link, up to so many bytes."""
-    data = b""
     try:
-        if not stage.next_link():
-            return data
-        while len(data) < most and (more := stage.recv(most - len(data))):
-            data += more
+        data = received_on(stage, most) if stage.next_link() else b""
     except LinkFault:
         raise Ends.link_fault()
     stage.end_link()
+    return data
+
+
+def received_on(stage, most):
+    """What comes on the link that stands, up to so many bytes."""
+    data = b""
+    while len(data) < most and (more := stage.recv(most - len(data))):
+        data += more
     return data
 
 

@@ -28,12 +28,12 @@ class Setting:
 
     def forget(self):
         """Forgets links, failing calls and books beside."""
-        self.links, self.upstream, self.beside = [], [], []
+        self.links, self.doors, self.upstream, self.beside = [], [], [], []
         self.failing = {"disk": [], "link": [], "up": []}
 
     def stage(self):
         """A stage as the lines before it say; links, failing calls and books are then forgotten."""
-        self.last = Stage(self.book, self.links, self.clock, self.failing["disk"], self.failing["link"])
+        self.last = Stage(self.book, self.links, self.clock, self.failing["disk"], self.failing["link"], self.doors)
         self.forget()
         return self.last
 

@@ -25,10 +25,10 @@ def common_length(one, other):
 class Stage:
     """What a program sees outside of itself."""
 
-    def __init__(self, contents=b"", links=(), readings=(), failing_disk=(), failing_link=()):
+    def __init__(self, contents=b"", links=(), readings=(), failing_disk=(), failing_link=(), doors=()):
         self.before, self.contents = bytes(contents), bytearray(contents)
         self.undone, self.loose = [], []
-        self.links = [[piece for piece in link if piece] for link in links]
+        self.links, self.doors = [[piece for piece in link if piece] for link in links], frozenset(doors)
         self.readings = [min(reading, MOMENTS - 1) for reading in readings] or [0]
         self.failing = {"disk": frozenset(failing_disk), "link": frozenset(failing_link)}
         self.calls = {"disk": 0, "link": 0}
@@ -73,6 +73,10 @@ class Stage:
             self.standing = self.links.pop(0)
             self.sent.append(b"")
         return self.standing is not None
+
+    def is_operators(self):
+        """Whether the last link that was taken came through the operator's door."""
+        return len(self.sent) - 1 in self.doors
 
     def recv(self, length):
         self.count("link", LinkFault)

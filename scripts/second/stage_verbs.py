@@ -9,7 +9,7 @@ from house import Ends, House, bench, opened
 from journal import BadChain, BadEntry, Halted, NotJournal, Replay, found
 from ledger import History, Limits, Request, answer, first_unlawful, is_refusal
 from payloads import BROKER, DEPOSIT, VENDOR, WITHDRAW, read_entry
-from program import parsed, places, run, run_proxy
+from program import parsed, places, run, run_at_door, run_proxy
 from refusals import refused
 from setting import U32, changed, data, maybe_data, number, of_length, up_to, word_bytes
 from stage import DiskFault, LinkFault, Stage, change_of
@@ -23,6 +23,11 @@ def set_book(setting, words):
 
 def set_link(setting, words):
     setting.links.append([data(setting, word) for word in words])
+
+
+def set_door(setting, words):
+    setting.doors.append(len(setting.links))
+    set_link(setting, words)
 
 
 def set_upstream(setting, words):
@@ -80,11 +85,14 @@ def do_run(setting, words):
     return ["run %d" % status] + setting.ended(stage) + [line for book in beside for line in beside_lines(book)]
 
 
-def do_proxy(setting, words):
-    up, stage = setting.stage_upstream(), setting.stage()
-    status = run_proxy([word_bytes(setting, word) for word in words], stage, up)
-    sent = ["up " + shown(data) for data in up.sent]
-    return ["proxy %d" % status, *setting.ended(stage), *sent, "up calls %d" % up.calls["link"]]
+def over_upstream(verb, run_words):
+    """The verb of a run whose links go to another stage, too."""
+    def do(setting, words):
+        up, stage = setting.stage_upstream(), setting.stage()
+        status = run_words([word_bytes(setting, word) for word in words], stage, up)
+        sent = ["up " + shown(data) for data in up.sent]
+        return ["%s %d" % (verb, status), *setting.ended(stage), *sent, "up calls %d" % up.calls["link"]]
+    return do
 
 
 def beside_lines(book):
@@ -347,8 +355,9 @@ def do_once(setting, words):
 
 
 def do_places(setting, words):
-    founds, book, listen, books, connect = places([word_bytes(setting, word) for word in words])
-    return [" ".join(["places", "founds" if founds else "opens", *map(shown, (book, listen, *books, connect))])]
+    how, book, listen, books, connect, door = places([word_bytes(setting, word) for word in words])
+    named = [] if door is None else ["door", shown(door)]
+    return [" ".join(["places", how, *map(shown, (book, listen, *books, connect)), *named])]
 
 
 def history_of(setting):
@@ -426,9 +435,10 @@ def end_by_hand(setting, words):
 
 
 VERBS = {
-    "book": set_book, "link": set_link, "upstream": set_upstream, "clock": set_clock, "fail": set_fail, "beside": set_beside,
-    "save": set_saved, "limits": set_limits,
-    "run": do_run, "proxy": do_proxy, "serve": do_serve, "desk": do_desk, "found": do_found, "goods": do_goods, "price": do_price,
+    "book": set_book, "link": set_link, "door": set_door, "upstream": set_upstream, "clock": set_clock, "fail": set_fail,
+    "beside": set_beside, "save": set_saved, "limits": set_limits,
+    "run": do_run, "proxy": over_upstream("proxy", run_proxy), "at_door": over_upstream("at_door", run_at_door),
+    "serve": do_serve, "desk": do_desk, "found": do_found, "goods": do_goods, "price": do_price,
     "licence": do_licence, "mint": do_mint, "coming": do_coming, "account": do_account,
     "deposit": paying("deposit", DEPOSIT), "withdraw": paying("withdraw", WITHDRAW), "licensed": do_licensed,
     "stock": do_stock, "upgrade": do_upgrade, "upgraded": do_upgraded, "switch": switching("switch", VENDOR),

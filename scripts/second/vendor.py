@@ -8,7 +8,7 @@ from house import Ends, bench, chained, founded, kept, opened, received
 from ledger import FULL
 from payloads import GOODS, MINT, SITE, TERMS, UPGRADE, VENDOR, entry_of
 from refusals import refused
-from words import listen, number, place, spelled, terms, text, want
+from words import listen, number, place, socket, spelled, terms, text, want
 
 MOST_CONTENTS = 65_536
 MOST_LINKS = 2**32 - 1
@@ -28,8 +28,9 @@ def parse_init(words, keep=b"600", clear=False):
         clear=clear)
 
 
-def parse_serve(words):
-    return SimpleNamespace(book=place(words[0]), listen=listen(words[1]), links=number(words[2], 1, MOST_LINKS))
+def parse_serve(words, door=None):
+    return SimpleNamespace(book=place(words[0]), listen=listen(words[1]), links=number(words[2], 1, MOST_LINKS),
+                           door=None if door is None else socket(door))
 
 
 def parse_play(words):
@@ -85,8 +86,13 @@ def goods(order, stage):
     house = opened(stage, FULL)
     contents = received(stage, MOST_CONTENTS + 1)
     house.raise_time()
+    return list_goods(house, order, contents)
+
+
+def list_goods(house, order, contents):
+    """Puts goods on sale whose contents are an input, and answers their line."""
     if len(contents) > MOST_CONTENTS:
-        raise Ends.refused(refused(54, len(contents)))
+        raise Ends.refused(refused(54, MOST_CONTENTS + 1))
     return put_goods(house, order, order.kind, contents)
 
 
@@ -152,7 +158,10 @@ def parse_upgrade(words):
 
 
 def upgrade(order, stage):
-    house = kept(stage)
+    return move_issuer(kept(stage), order)
+
+
+def move_issuer(house, order):
     return upgrade_issuer(house, house.history.site.name, order.issuer, order.start)
 
 
@@ -191,7 +200,7 @@ def chain(order, stage):
 COMMANDS = {
     b"once": (5, (), (), parse_once, once),
     b"init": (6, (b"--keep",), (b"--clear",), parse_init, init),
-    b"serve": (3, (), (), parse_serve, serve),
+    b"serve": (3, (b"--door",), (), parse_serve, serve),
     b"play": (1, (), (), parse_play, play_heads),
     b"goods": (3, (b"--kind",), (), parse_goods, goods),
     b"price": (3, (), (), parse_price, price),
@@ -200,4 +209,15 @@ COMMANDS = {
     b"upgrade": (3, (), (), parse_upgrade, upgrade),
     b"chain": (1, (), (), parse_book, chain),
     b"statement": (3, (), (), parse_statement, statement),
+}
+
+# Of each command that may be given at a door, too, the most bytes of its input, and what it does to an open house, by what its
+# words give and with an input.
+OPERATIONS = {
+    b"goods": (MOST_CONTENTS, list_goods),
+    b"price": (None, lambda house, order, _: set_price(house, order)),
+    b"licence": (None, lambda house, order, _: add_terms(house, order)),
+    b"mint": (None, lambda house, order, _: mint_pieces(house, order)),
+    b"upgrade": (None, lambda house, order, _: move_issuer(house, order)),
+    b"chain": (None, lambda house, order, _: chained(house)),
 }

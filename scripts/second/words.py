@@ -41,10 +41,13 @@ def connect(word):
 
 def listen(word):
     """An address, of which the port may be 0, or the path of a Unix socket."""
-    if word.startswith(b"/"):
-        want(2 <= len(word) <= 107)
-        return word
-    return address(word, 0)
+    return socket(word) if word.startswith(b"/") else address(word, 0)
+
+
+def socket(word):
+    """The path of a Unix socket."""
+    want(word.startswith(b"/") and 2 <= len(word) <= 107)
+    return word
 
 
 def text(test, word):

@@ -10,6 +10,7 @@ from pathlib import Path
 sys.path.insert(0, str(Path(__file__).resolve().parents[1] / "lib"))
 
 import millicent  # noqa: E402
+from payloads import ACCEPT  # noqa: E402
 from serving import kill_under_load  # noqa: E402
 from shop import PRICE, TARGET, Link, Shop  # noqa: E402
 
@@ -69,14 +70,19 @@ class Log:
             except OSError:
                 time.sleep(0.002)
 
+    def handed(self, entry):
+        """The identities that an entry hands out."""
+        return [entry.change] if entry.kind == ACCEPT and entry.change is not None else []
+
     def read_book(self):
         """Each accepted request with its price and change. None is there twice, and change has no gap."""
-        accepts = millicent.entries_of(self.shop.bytes())[3:]
+        entries = millicent.entries_of(self.shop.bytes())
+        accepts = [e for e in entries if e.kind == ACCEPT]
         identities = Counter(a.scrip.split(b"|")[3] for a in accepts)
         for ident in (i for i, n in identities.items() if n > 1):
             self.wrong("identity %r was accepted twice" % ident)
         series = Counter()
-        for change in (a.change for a in accepts if a.change is not None):
+        for change in (identity for entry in entries for identity in self.handed(entry)):
             number, serial = change >> 32, change & 0xffffffff
             if serial != series[number]:
                 self.wrong("change %016x has not the serial %d" % (change, series[number]))

@@ -19,6 +19,7 @@ pub(crate) fn set(
         b"let" => name(state, args),
         b"book" => book(state, args),
         b"link" => link(state, args),
+        b"door" => door(state, args),
         b"upstream" => upstream(state, args),
         b"clock" => clock(state, args),
         b"fail" => fail(state, args),
@@ -48,6 +49,16 @@ fn book(state: &mut State, args: &[&[u8]]) -> Result<(), Fault> {
 fn link(state: &mut State, args: &[&[u8]]) -> Result<(), Fault> {
     let pieces = pieces(state, args)?;
     state.setting.links.push(pieces)?;
+    Ok(())
+}
+
+/// One more link, which comes through the operator's door.
+fn door(state: &mut State, args: &[&[u8]]) -> Result<(), Fault> {
+    let Ok(number) = u32::try_from(state.setting.links.len()) else {
+        return Err(Fault::Value);
+    };
+    link(state, args)?;
+    state.setting.doors.push(number)?;
     Ok(())
 }
 

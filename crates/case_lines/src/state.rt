@@ -17,6 +17,8 @@ use std::mem;
 pub struct Setting {
     pub book: Vec<u8>,
     pub links: Vec<Vec<Vec<u8>>>,
+    /// The numbers of the links that come through the operator's door.
+    pub doors: Vec<u32>,
     pub readings: Vec<u64>,
     pub failing_disk: Vec<u32>,
     pub failing_link: Vec<u32>,
@@ -56,6 +58,7 @@ impl Setting {
         Setting {
             book: Vec::new(alloc),
             links: Vec::new(alloc),
+            doors: Vec::new(alloc),
             readings: Vec::new(alloc),
             failing_disk: Vec::new(alloc),
             failing_link: Vec::new(alloc),
@@ -118,11 +121,13 @@ impl State {
         let contents = Vec::from_slice(alloc, &self.setting.book)?;
         let readings = Vec::from_slice(alloc, &self.setting.readings)?;
         let links = mem::replace(&mut self.setting.links, Vec::new(alloc));
+        let doors = mem::replace(&mut self.setting.doors, Vec::new(alloc));
         let failing = Failing {
             disk: List::of(mem::replace(&mut self.setting.failing_disk, Vec::new(alloc))),
             link: List::of(mem::replace(&mut self.setting.failing_link, Vec::new(alloc))),
         };
-        Ok(Stage::new(alloc, contents, links, readings, failing)?)
+        let stage = Stage::new(alloc, contents, links, readings, failing)?;
+        Ok(stage.through_door(doors))
     }
 
     /// A stage that has the links to the vendor alone, which are for it alone, as are the calls of theirs that fail.

@@ -72,6 +72,8 @@ fn places_of(state: &mut State, args: &[&[u8]], out: &mut Lines) -> Result<(), F
     let told = places(state.alloc, &words)?;
     out.start(if told.founds {
         "places founds"
+    } else if told.operates {
+        "places operates"
     } else {
         "places opens"
     });
@@ -81,6 +83,10 @@ fn places_of(state: &mut State, args: &[&[u8]], out: &mut Lines) -> Result<(), F
         out.bytes(book.slice());
     }
     place(&told.connect, out);
+    if let Some(door) = &told.door {
+        out.word(b"door");
+        out.bytes(door.slice());
+    }
     out.end();
     Ok(())
 }

@@ -59,7 +59,8 @@ pub fn text_of(name: CommandName) -> CommandText {
         CommandName::VendorServe => text(
             "serves a vendor's pages from its book",
             "Answers requests over HTTP until so many links were served; then prints\n\
-             `served LINKS`. Meanwhile no other command can open the book.\n",
+             `served LINKS`. Meanwhile no other command can open the book; with --door PATH the\n\
+             operator's commands are given with PATH in the place of BOOK.\n",
             "millicent vendor serve news.book 127.0.0.1:8081 1000000\n",
         ),
         CommandName::VendorOnce => text(
@@ -133,7 +134,8 @@ pub fn text_of(name: CommandName) -> CommandText {
         CommandName::BrokerServe => text(
             "serves draws, sales and credits from a book",
             "Answers requests over HTTP until so many links were served; then prints\n\
-             `served LINKS`. Meanwhile no other command can open the book.\n",
+             `served LINKS`. Meanwhile no other command can open the book; with --door PATH the\n\
+             operator's commands are given with PATH in the place of BOOK.\n",
             "millicent broker serve bank.book 127.0.0.1:8082 1000000\n",
         ),
         CommandName::BrokerUpgrade => text(

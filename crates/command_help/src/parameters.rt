@@ -29,6 +29,7 @@ pub fn meaning_of(parameter: Parameter) -> &'static str {
         Parameter::Reference => "a name for this one mint or payment, new for each",
         Parameter::Listen => "where links come",
         Parameter::Links => "after how many links the program ends",
+        Parameter::Door => "where the site's operator gives commands while it serves",
         Parameter::Secret => "the one secret of the shop",
         Parameter::Contents => "what it sells",
         Parameter::Heads => "how many requests",
@@ -95,6 +96,7 @@ fn words_of(parameter: Parameter) -> &'static str {
         (Parameter::Listen, _) => {
             "a host or address, a colon and a port, or the path of a Unix socket, which begins with /"
         }
+        (Parameter::Door, _) => "the path of a Unix socket, of 2 to 107 bytes, the first /",
         (Parameter::Connect, _) => "a host or address, a colon and a port, as 127.0.0.1:8081",
         (_, Shape::One(Sort::Name)) => {
             "1 to 63 of a to z, 0 to 9, - and ., the first a letter or a digit"

@@ -21,7 +21,7 @@ use Rattle.command_table.specs.Ranges.{IsPathOrAddress}
 use Rattle.command_table.specs.Table.{form_of, rules}
 use Rattle.command_table.specs.Values.{AreFound, EachMayBe, HaveValues, IsFound, IsOf, MayBe, Spells, ValueOf, ValuesOf, rules_of, spelled}
 use Rattle.command_table.proofs.OneLemmas.{all_ranges, range_of}
-use Rattle.command_table.proofs.Samples.{a_connect, a_listen, a_name, a_place, a_secret, a_target, are_secrets, is_secret, kept_at, kept_word, row_of, same_kept, word_at, words_of}
+use Rattle.command_table.proofs.Samples.{a_connect, a_listen, a_name, a_place, a_secret, a_socket, a_target, are_secrets, is_secret, kept_at, kept_word, row_of, same_kept, word_at, words_of}
 use Rattle.command_table.proofs.SpellLemmas.{filled, option_in, spelled_in}
 use Rattle.command_table.proofs.TableLemmas.{all_distinct, are_distinct}
 
@@ -47,6 +47,7 @@ sample : (sort : Sort) → is_range (One sort) ≡ true → (value : Spells sort
 sample sorts.Place range = (codes "a", a_place)
 sample sorts.Listen range = (codes "a:1", a_listen)
 sample sorts.Connect range = (codes "a:1", a_connect)
+sample sorts.Socket range = (codes "/a", a_socket)
 sample sorts.Name range = (codes "a", a_name)
 sample sorts.Target range = (codes "/", a_target)
 sample sorts.Contents range = ([], omega arith)

@@ -34,6 +34,7 @@ one_spelled : (sort : Sort) → is_range (One sort) ≡ true → (a b : Spells s
 one_spelled sorts.Place range a b is_a is_b e = e
 one_spelled sorts.Listen range a b is_a is_b e = e
 one_spelled sorts.Connect range a b is_a is_b e = e
+one_spelled sorts.Socket range a b is_a is_b e = e
 one_spelled sorts.Name range a b is_a is_b e = e
 one_spelled sorts.Target range a b is_a is_b e = e
 one_spelled sorts.Contents range a b is_a is_b e = e

@@ -9,7 +9,7 @@ use Rattle.mc_fields.proofs.TextTest.{text_decides}
 use Rattle.scrip_form.specs.Texts.{IsName, IsTarget}
 use Rattle.scrip_form.specs.Scrip.{IsCert}
 use Rattle.scrip_form.proofs.TextTests.{name_decides, target_decides}
-use Rattle.command_table.specs.Ranges.{IsConnect, IsHostAndPort, IsListen, IsPathOrAddress, IsSecretList, is_host_byte}
+use Rattle.command_table.specs.Ranges.{IsConnect, IsHostAndPort, IsListen, IsPathOrAddress, IsSecretList, IsSocket, is_host_byte}
 use Rattle.command_table.specs.declared.address.TheConstants.{MOST_HOST}
 use Rattle.command_table.specs.Values.{MaySpell}
 
@@ -33,6 +33,9 @@ a_connect = (record { some = omega arith; short = omega arith }, inl (a_port 1 (
 
 pub a_listen : IsListen (codes "a:1")
 a_listen = (record { some = omega arith; short = omega arith }, inr (inl (a_port 0 (omega arith))))
+
+pub a_socket : IsSocket (codes "/a")
+a_socket = (record { some = omega arith; short = omega arith }, record { behind = codes "a"; word' = refl; some = omega arith; short = omega arith })
 
 pub a_name : IsName (codes "a")
 unfolding is_text

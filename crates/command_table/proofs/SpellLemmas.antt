@@ -52,6 +52,17 @@ borrowed (Some word) Is None some none there = (λ t. absurd (cc t), λ may. abs
     no None is e = cc
     no (Some x) is e = none refl x is e
 
+-- and one of an option's word
+pub borrowed_option : (word : Option Text) (Is : Text → Type 0) (r : Option (Option (Bor Text))) → IfSome r (λ o. IfSome o (λ p. Is p.now) × (word ≡ option_map (λ (p : Bor Text). p.now) o)) → (IsNone r → (o : Option Text) → IfSome o Is → word ≡ o → ⊥)
+    → IsTrue (is_some r) ↔ MaySpell word Is (λ x. x)
+borrowed_option word Is (Some None) some none = (λ t. (None, tt, some.1), λ may. refl)
+borrowed_option word Is (Some (Some p)) some none = (λ t. (Some p.now, some.0, some.1), λ may. refl)
+borrowed_option word Is None some none = (λ t. absurd (cc t), λ may. absurd (no may.0 may.1 may.2))
+  where
+    no : (o : Option Text) → IfSome o Is → word ≡ option_map (λ (x : Text). x) o → ⊥
+    no None is e = none refl None is e
+    no (Some x) is e = none refl (Some x) is e
+
 -- ---- tests
 
 pub and_iff : (a b : Bool) {P Q : Type 0} → (IsTrue a ↔ P) → (IsTrue b ↔ Q) → IsTrue (a && b) ↔ (P × Q)

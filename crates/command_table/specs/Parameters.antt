@@ -36,6 +36,7 @@ name_of parameters.Value = codes "VALUE"
 name_of parameters.Reference = codes "REFERENCE"
 name_of parameters.Listen = codes "LISTEN"
 name_of parameters.Links = codes "LINKS"
+name_of parameters.Door = codes "door"
 name_of parameters.Secret = codes "SECRET"
 name_of parameters.Contents = codes "CONTENTS"
 name_of parameters.Heads = codes "COUNT"
@@ -56,6 +57,7 @@ name_of parameters.Json = codes "json"
 abbrev pub value_name_of : Parameter → Text
 value_name_of parameters.Keep = codes "S"
 value_name_of parameters.Kind = codes "K"
+value_name_of parameters.Door = codes "PATH"
 value_name_of _ = codes "VALUE"
 
 -- how it is written, and what its words spell
@@ -81,6 +83,7 @@ shape_of parameters.Value = One (Number 1 MOST)
 shape_of parameters.Reference = One sorts.Name
 shape_of parameters.Listen = One sorts.Listen
 shape_of parameters.Links = One (Number 1 MOST_LINKS)
+shape_of parameters.Door = Setting sorts.Socket
 shape_of parameters.Secret = One sorts.Secret
 shape_of parameters.Contents = One sorts.Contents
 shape_of parameters.Heads = One (Number 1 MOST_HEADS)

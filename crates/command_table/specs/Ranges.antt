@@ -62,6 +62,10 @@ pub record IsSocketPath (word : List ℕ) : Type 0 where
 abbrev pub IsConnect : List ℕ → Type 0
 IsConnect word = IsPathOrAddress word × IsAddress 1 word
 
+-- a place of a Unix socket
+abbrev pub IsSocket : List ℕ → Type 0
+IsSocket word = IsPathOrAddress word × IsSocketPath word
+
 -- a place to listen at: an address, where port 0 has the system choose one, or the path of a Unix socket
 abbrev pub IsListen : List ℕ → Type 0
 IsListen word = IsPathOrAddress word × (IsSocketPath word ⊎ IsAddress 0 word)

@@ -3,7 +3,7 @@ use Rattle.std.specs.Prelude.{◌≡◌, Bool, true, false, List, [], ◌∷◌,
 use Rattle.clap.specs.Walk.{Row, Rule, Text}
 use Rattle.command_words.specs.Arguments.{found}
 use Rattle.command_table.specs.declared.parameter.Parameter.{Parameter}
-use Rattle.command_table.specs.declared.parameter.Parameter.TheVariants.{Account, Amount, AnyIssuer, Before, Book, Books, Broker, Budget, Clear, Connect, Contents, Customer, Epoch, Fee, Heads, Issuer, Json, Keep, Key, Kind, Life, Limit, Links, Listen, Name, Order, Peer, Period, Pieces, Price, Reference, Scrip, Secret, Target, Value, Vendor}
+use Rattle.command_table.specs.declared.parameter.Parameter.TheVariants.{Account, Amount, AnyIssuer, Before, Book, Books, Broker, Budget, Clear, Connect, Contents, Customer, Door, Epoch, Fee, Heads, Issuer, Json, Keep, Key, Kind, Life, Limit, Links, Listen, Name, Order, Peer, Period, Pieces, Price, Reference, Scrip, Secret, Target, Value, Vendor}
 use Rattle.command_table.specs.declared.table.CommandName.{CommandName}
 use Rattle.command_table.specs.declared.table.CommandName.TheVariants as names
 use Rattle.command_table.specs.Values.{AreFound, ValuesOf, rules_of}
@@ -28,7 +28,7 @@ form_of names.VendorGoods = row (codes "vendor") (codes "goods") (Book ∷ Targe
 form_of names.VendorPrice = row (codes "vendor") (codes "price") (Book ∷ Target ∷ Price ∷ [])
 form_of names.VendorLicence = row (codes "vendor") (codes "licence") (Book ∷ Issuer ∷ Period ∷ Life ∷ Scrip ∷ Customer ∷ [])
 form_of names.VendorMint = row (codes "vendor") (codes "mint") (Book ∷ Pieces ∷ Value ∷ Reference ∷ [])
-form_of names.VendorServe = row (codes "vendor") (codes "serve") (Book ∷ Listen ∷ Links ∷ [])
+form_of names.VendorServe = row (codes "vendor") (codes "serve") (Book ∷ Listen ∷ Links ∷ Door ∷ [])
 form_of names.VendorOnce = row (codes "vendor") (codes "once") (Name ∷ Target ∷ Price ∷ Secret ∷ Contents ∷ [])
 form_of names.VendorPlay = row (codes "vendor") (codes "play") (Heads ∷ [])
 form_of names.VendorUpgrade = row (codes "vendor") (codes "upgrade") (Book ∷ AnyIssuer ∷ Epoch ∷ [])
@@ -41,7 +41,7 @@ form_of names.BrokerWithdraw = row (codes "broker") (codes "withdraw") (Book ∷
 form_of names.BrokerBalance = row (codes "broker") (codes "balance") (Book ∷ Account ∷ [])
 form_of names.BrokerLicence = row (codes "broker") (codes "licence") (Book ∷ [])
 form_of names.BrokerStock = row (codes "broker") (codes "stock") (Book ∷ Vendor ∷ [])
-form_of names.BrokerServe = row (codes "broker") (codes "serve") (Book ∷ Listen ∷ Links ∷ [])
+form_of names.BrokerServe = row (codes "broker") (codes "serve") (Book ∷ Listen ∷ Links ∷ Door ∷ [])
 form_of names.BrokerUpgrade = row (codes "broker") (codes "upgrade") (Book ∷ Vendor ∷ Epoch ∷ [])
 form_of names.BrokerChain = row (codes "broker") (codes "chain") (Book ∷ [])
 form_of names.BrokerSettle = row (codes "broker") (codes "settle") (Book ∷ [])

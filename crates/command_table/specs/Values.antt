@@ -13,7 +13,7 @@ use Rattle.command_table.specs.declared.parameter.Shape.TheVariants.{One, Places
 use Rattle.command_table.specs.declared.parameter.Sort.{Sort}
 use Rattle.command_table.specs.declared.parameter.Sort.TheVariants as sorts
 use Rattle.command_table.specs.Parameters.{name_of, rule_of, shape_of}
-use Rattle.command_table.specs.Ranges.{IsConnect, IsListen, IsPathOrAddress, IsSecretList, IsWithin, joined}
+use Rattle.command_table.specs.Ranges.{IsConnect, IsListen, IsPathOrAddress, IsSecretList, IsSocket, IsWithin, joined}
 
 -- ---- one word
 
@@ -22,6 +22,7 @@ abbrev pub Spells : Sort → Type 0
 Spells sorts.Place = List ℕ
 Spells sorts.Listen = List ℕ
 Spells sorts.Connect = List ℕ
+Spells sorts.Socket = List ℕ
 Spells sorts.Name = List ℕ
 Spells sorts.Target = List ℕ
 Spells sorts.Contents = List ℕ
@@ -34,6 +35,7 @@ abbrev pub IsOf : (sort : Sort) → Spells sort → Type 0
 IsOf sorts.Place word = IsPathOrAddress word
 IsOf sorts.Listen word = IsListen word
 IsOf sorts.Connect word = IsConnect word
+IsOf sorts.Socket word = IsSocket word
 IsOf sorts.Name word = IsName word
 IsOf sorts.Target word = IsTarget word
 IsOf sorts.Contents word = length word ≤ MOST_CONTENTS
@@ -46,6 +48,7 @@ abbrev pub spelled : (sort : Sort) → Spells sort → Text
 spelled sorts.Place word = word
 spelled sorts.Listen word = word
 spelled sorts.Connect word = word
+spelled sorts.Socket word = word
 spelled sorts.Name word = word
 spelled sorts.Target word = word
 spelled sorts.Contents word = word

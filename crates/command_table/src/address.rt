@@ -2,7 +2,7 @@
 
 ghost use Rattle.std.specs.Prelude.{◌≡◌, ◌∷◌, IsTrue, ◌↔◌};
 ghost use Rattle.command_table.specs.Ranges as ranges;
-ghost use Rattle.command_table.specs.Ranges.{IsAddress, IsBracketedAndPort, IsConnect, IsHostAndPort, IsListen, IsSocketPath};
+ghost use Rattle.command_table.specs.Ranges.{IsAddress, IsBracketedAndPort, IsConnect, IsHostAndPort, IsListen, IsSocket, IsSocketPath};
 
 use crate::value::{is_place, number_from};
 use mc_fields::{TextRule, read_text};
@@ -28,6 +28,13 @@ pub(crate) fn is_listen(word: &str) -> bool
     ensures { IsTrue result ↔ IsListen word.now }
 {
     is_place(word) && (is_socket_path(word.as_bytes()) || is_address(0, word.as_bytes()))
+}
+
+/// Whether it names a place of a Unix socket: its path.
+pub(crate) fn is_socket(word: &str) -> bool
+    ensures { IsTrue result ↔ IsSocket word.now }
+{
+    is_place(word) && is_socket_path(word.as_bytes())
 }
 
 /// Whether the word is the path of a Unix socket: a slash, and a byte or more behind it.

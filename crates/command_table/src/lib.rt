@@ -31,7 +31,7 @@ pub use parameter::{
 pub use place::Place;
 pub use reading::{
     connect_in, contents_in, flag_in, listen_in, name_in, number_in, place_in, secret_in,
-    secrets_in, setting_in, target_in,
+    secrets_in, setting_in, socket_in, target_in,
 };
 pub use secrets::{reads_secrets, secrets_of};
 pub use table::{COMMANDS, CommandName, named, read_command};

@@ -7,7 +7,7 @@ ghost use Rattle.scrip_form.specs.Texts.{IsName, IsTarget};
 ghost use Rattle.scrip_form.specs.Scrip.{IsCert};
 ghost use Rattle.command_words.specs.Arguments.{value_of, values_of};
 ghost use Rattle.mc_records.specs.declared.ranges.TheConstants.{MOST_CONTENTS};
-ghost use Rattle.command_table.specs.Ranges.{IsConnect, IsListen, IsPathOrAddress, IsSecretList, IsWithin, joined};
+ghost use Rattle.command_table.specs.Ranges.{IsConnect, IsListen, IsPathOrAddress, IsSecretList, IsSocket, IsWithin, joined};
 ghost use Rattle.command_table.specs.Beginning.{MayBecome};
 ghost use Rattle.command_table.specs.Parameters.{is_range, name_of, shape_of};
 ghost use Rattle.command_table.specs.Table.{form_of, rules};
@@ -18,7 +18,7 @@ use crate::parameter::{Parameter, Shape, Sort};
 use crate::table::CommandName;
 use crate::value::{
     MOST_NUMBER, are_places, spelled_connect, spelled_contents, spelled_listen, spelled_name,
-    spelled_option, spelled_place, spelled_secret, spelled_secrets, spelled_target,
+    spelled_option, spelled_place, spelled_secret, spelled_secrets, spelled_socket, spelled_target,
 };
 use command_words::Found;
 
@@ -74,6 +74,7 @@ fn may_spell(found: &Found<'_>, name: &str, sort: Sort) -> bool
         Sort::Place => may_place(found, name),
         Sort::Listen => may_listen(found, name),
         Sort::Connect => may_connect(found, name),
+        Sort::Socket => may_socket(found, name),
         Sort::Name => may_name(found, name),
         Sort::Target => may_target(found, name),
         Sort::Contents => may_contents(found, name),
@@ -102,6 +103,13 @@ fn may_connect(found: &Found<'_>, name: &str) -> bool
     ensures { IsTrue result ↔ MaySpell (value_of found.now name.now) IsConnect (λ p. p) }
 {
     found.value_of(name).is_none() || spelled_connect(found, name).is_some()
+}
+
+/// Whether the word names a place of a Unix socket, likewise.
+fn may_socket(found: &Found<'_>, name: &str) -> bool
+    ensures { IsTrue result ↔ MaySpell (value_of found.now name.now) IsSocket (λ p. p) }
+{
+    spelled_socket(found, name).is_some()
 }
 
 /// Whether each of several words names a book, where there are words.

@@ -45,6 +45,8 @@ pub enum Sort {
     Listen,
     /// A place to connect to, as it is written: an address and a port.
     Connect,
+    /// A place of a Unix socket, as it is written: its path.
+    Socket,
     /// A name.
     Name,
     /// A target.
@@ -117,6 +119,8 @@ pub enum Parameter {
     Listen,
     /// How many links are taken at most.
     Links,
+    /// Where the operator of a site that is served gives commands.
+    Door,
     /// The one secret of a shop.
     Secret,
     /// The contents that it sells.
@@ -174,6 +178,7 @@ impl Parameter {
             Parameter::Reference => "REFERENCE",
             Parameter::Listen => "LISTEN",
             Parameter::Links => "LINKS",
+            Parameter::Door => "door",
             Parameter::Secret => "SECRET",
             Parameter::Contents => "CONTENTS",
             Parameter::Account => "ACCOUNT",
@@ -198,6 +203,7 @@ impl Parameter {
         match self {
             Parameter::Keep => "S",
             Parameter::Kind => "K",
+            Parameter::Door => "PATH",
             _ => "VALUE",
         }
     }
@@ -240,6 +246,7 @@ impl Parameter {
             Parameter::Before => Shape::One(Sort::Number(0, Moment::LAST)),
             Parameter::Keep => Shape::Setting(Sort::Number(LEAST_KEPT, MOST_KEPT)),
             Parameter::Kind => Shape::Setting(Sort::Number(0, MOST_KIND)),
+            Parameter::Door => Shape::Setting(Sort::Socket),
             Parameter::Clear | Parameter::Json => Shape::Flag,
         }
     }

@@ -11,7 +11,7 @@ use crate::parameter::Parameter;
 use crate::place::Place;
 use crate::value::{
     MOST_NUMBER, spelled_connect, spelled_contents, spelled_listen, spelled_name, spelled_number,
-    spelled_option, spelled_place, spelled_secret, spelled_secrets, spelled_target,
+    spelled_option, spelled_place, spelled_secret, spelled_secrets, spelled_socket, spelled_target,
 };
 use crate::within::Within;
 use command_words::Found;
@@ -116,6 +116,18 @@ pub fn setting_in<const LEAST: u64, const MOST: u64>(
 {
     match spelled_option(found, parameter.name(), LEAST, MOST)? {
         Some(number) => Some(Some(Within::of(number))),
+        None => Some(None),
+    }
+}
+
+/// The place of a Unix socket that the value of an option is, where the option is there; None exactly where it is none.
+pub fn socket_in<'a>(found: &Found<'a>, parameter: Parameter) -> Option<Option<Place<'a>>>
+    ensures some { IfSome result (IsFound found.now (name_of parameter) (Setting sorts.Socket)) }
+    ensures none { IsNone result → (value : Option (List ℕ))
+        → IsFound found.now (name_of parameter) (Setting sorts.Socket) value → ⊥ }
+{
+    match spelled_socket(found, parameter.name())? {
+        Some(path) => Some(Some(Place::of(path))),
         None => Some(None),
     }
 }

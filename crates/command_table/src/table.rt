@@ -6,8 +6,8 @@ ghost use Rattle.command_table.specs.Naming.{named};
 use crate::parameter::Parameter;
 use crate::parameter::Parameter::{
     Account, Amount, AnyIssuer, Before, Book, Books, Broker, Budget, Clear, Connect, Contents,
-    Customer, Epoch, Fee, Heads, Issuer, Json, Keep, Key, Kind, Life, Limit, Links, Listen, Name,
-    Order, Peer, Period, Pieces, Price, Reference, Scrip, Secret, Target, Value, Vendor,
+    Customer, Door, Epoch, Fee, Heads, Issuer, Json, Keep, Key, Kind, Life, Limit, Links, Listen,
+    Name, Order, Peer, Period, Pieces, Price, Reference, Scrip, Secret, Target, Value, Vendor,
 };
 use command_words::{Found, read_beginning, read_words};
 use std::alloc::{AllocError, Global};
@@ -193,7 +193,7 @@ impl CommandName {
                 &[Book, Issuer, Period, Life, Scrip, Customer],
             ),
             CommandName::VendorMint => row("vendor", "mint", &[Book, Pieces, Value, Reference]),
-            CommandName::VendorServe => row("vendor", "serve", &[Book, Listen, Links]),
+            CommandName::VendorServe => row("vendor", "serve", &[Book, Listen, Links, Door]),
             CommandName::VendorOnce => row(
                 "vendor",
                 "once",
@@ -222,7 +222,7 @@ impl CommandName {
             CommandName::BrokerBalance => row("broker", "balance", &[Book, Account]),
             CommandName::BrokerLicence => row("broker", "licence", &[Book]),
             CommandName::BrokerStock => row("broker", "stock", &[Book, Vendor]),
-            CommandName::BrokerServe => row("broker", "serve", &[Book, Listen, Links]),
+            CommandName::BrokerServe => row("broker", "serve", &[Book, Listen, Links, Door]),
             CommandName::BrokerUpgrade => row("broker", "upgrade", &[Book, Vendor, Epoch]),
             CommandName::BrokerChain => row("broker", "chain", &[Book]),
             CommandName::BrokerSettle => row("broker", "settle", &[Book]),

@@ -4,9 +4,9 @@ ghost use Rattle.hex.specs.Hex.{encode_lower};
 ghost use Rattle.scrip_form.specs.Texts.{IsName, IsTarget};
 ghost use Rattle.scrip_form.specs.Scrip.{IsCert};
 ghost use Rattle.command_words.specs.Arguments.{value_of};
-ghost use Rattle.command_table.specs.Ranges.{IsConnect, IsListen, IsPathOrAddress, IsSecretList, IsWithin, is_path_or_address, joined};
+ghost use Rattle.command_table.specs.Ranges.{IsConnect, IsListen, IsPathOrAddress, IsSecretList, IsSocket, IsWithin, is_path_or_address, joined};
 
-use crate::address::{is_connect, is_listen};
+use crate::address::{is_connect, is_listen, is_socket};
 use crate::secrets::{secret_of, secrets_of};
 use command_words::Found;
 use mc_fields::number_of;
@@ -59,6 +59,20 @@ pub(crate) fn spelled_connect<'a>(found: &Found<'a>, name: &str) -> Option<&'a [
         return None;
     }
     Some(word.as_bytes())
+}
+
+/// The place of a Unix socket that the value of an option is, where the option is there; None exactly where it is none.
+pub(crate) fn spelled_socket<'a>(found: &Found<'a>, name: &str) -> Option<Option<&'a [u8]>>
+    ensures some { IfSome result (λ o. IfSome o (λ p. IsSocket p.now)
+        × (value_of found.now name.now ≡ option_map (λ p. p.now) o)) }
+    ensures none { IsNone result → (o : Option (List ℕ)) → IfSome o IsSocket
+        → value_of found.now name.now ≡ o → ⊥ }
+{
+    match found.value_of(name) {
+        None => Some(None),
+        Some(word) if is_socket(word) => Some(Some(word.as_bytes())),
+        Some(_) => None,
+    }
 }
 
 /// Whether the word has as many bytes as one that names a book or a place.

@@ -126,6 +126,7 @@ fn tell_sort(rt: &impl Eprint, hyphens: &str, name: &str, sort: Sort) {
             "a host or address, a colon and a port, as 127.0.0.1:8081, or a path of 2 to 107 bytes, the first /"
         }
         Sort::Connect => "a host or address, a colon and a port, as 127.0.0.1:8081",
+        Sort::Socket => "the path of a Unix socket, of 2 to 107 bytes, the first /",
         Sort::Name => {
             "1 to 63 of a to z, 0 to 9, - and ., the first a letter or a digit; no capitals, no blank, no /"
         }

@@ -97,6 +97,10 @@ impl<'a, R: Net> Source for Caller<'a, R> {
         Err(ErrorKind::TimedOut.into())
     }
 
+    fn is_operators(&self) -> bool {
+        false
+    }
+
     fn end(&mut self) {
         self.stream = None;
     }

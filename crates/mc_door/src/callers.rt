@@ -94,6 +94,10 @@ impl<'a, R: Net, C: Clock> Source for Callers<'a, R, C> {
         Err(ErrorKind::TimedOut.into())
     }
 
+    fn is_operators(&self) -> bool {
+        false
+    }
+
     fn end(&mut self) {
         self.standing = None;
     }

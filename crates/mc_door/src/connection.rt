@@ -1,5 +1,6 @@
 ghost use Rattle.std.specs.Io.{ReadsAtMost, WritesAtMost};
 
+use crate::commands::Commands;
 use millicent_http::ends_item;
 use mio::event::Source;
 use mio::net::TcpStream;
@@ -12,6 +13,14 @@ use std::time::{Duration, Instant};
 
 /// How many seconds a connection may take for its first item.
 const WAITING: u64 = 30;
+
+/// How many seconds an operator's connection may be silent between two commands, and how many one may take that began.
+const SILENT: u64 = 600;
+
+const TELLING: u64 = 30;
+
+/// How many times bytes of an operator's commands are taken in one go.
+const READS: u32 = 64;
 
 /// How many seconds a peer may take nothing of what is left for it, or not end its side, once its link is over.
 const LEAVING: u64 = 10;
@@ -29,9 +38,10 @@ const LAST_READS: u32 = 16;
 /// What a connection is at.
 #[derive(Clone, Copy, Debug, PartialEq, Eq)]
 pub(crate) enum Stage {
-    /// Its bytes end no item yet. They stay with the system.
+    /// Its bytes end no item yet. They stay with the system. An operator's are read: they are no command whole yet, or its
+    /// peer has not taken the answers of before.
     Waiting,
-    /// Its bytes end an item, or its peer has ended it.
+    /// Its bytes end an item, or its peer has ended it. An operator's begin with a command whole.
     Ready,
     /// It is that of the standing link.
     Standing,
@@ -45,6 +55,8 @@ pub(crate) enum Look {
     Item,
     /// They end no item.
     Part,
+    /// They are no command of the operator's, and no more come.
+    Over,
     /// The connection broke.
     Gone,
 }
@@ -69,12 +81,22 @@ pub(crate) struct Connection {
     at_end: bool,
     // whether the peer was told of the site's end
     told: bool,
+    // of an operator's: what came of its commands
+    commands: Option<Commands>,
+    // whether bytes were to be sent on its link that were not taken
+    owes: bool,
 }
 
 impl Connection {
     ghost use Rattle.std.specs.Prelude.{◌≡◌, ◌⊎◌, false, IsNone};
 
-    pub(crate) fn new(alloc: Global, stream: TcpStream, now: Instant) -> Connection {
+    /// A connection of a customer's, or of the operator's.
+    pub(crate) fn new(
+        alloc: Global,
+        stream: TcpStream,
+        is_operators: bool,
+        now: Instant,
+    ) -> Connection {
         Connection {
             stream,
             stage: Stage::Waiting,
@@ -86,7 +108,18 @@ impl Connection {
             watched: false,
             at_end: false,
             told: false,
+            commands: if is_operators {
+                Some(Commands::new(alloc))
+            } else {
+                None
+            },
+            owes: false,
         }
+    }
+
+    /// Whether it came through the operator's door.
+    pub(crate) fn is_operators(&self) -> bool {
+        self.commands.is_some()
     }
 
     pub(crate) fn stage(&self) -> Stage {
@@ -125,14 +158,35 @@ impl Connection {
     {
         let age = self.age(now).as_secs();
         match self.stage {
-            Stage::Waiting => age >= WAITING,
+            Stage::Waiting => age >= self.patience(),
             Stage::Leaving => age >= LONGEST_LEAVING || self.silence(now).as_secs() >= LEAVING,
             Stage::Ready | Stage::Standing => false,
         }
     }
 
+    /// How many seconds it may wait.
+    fn patience(&self) -> u64 {
+        if !self.is_operators() {
+            WAITING
+        } else if self.begun {
+            TELLING
+        } else {
+            SILENT
+        }
+    }
+
+    /// Whether it may go for others while it waits: where it does so since before `young`; an operator's where no part of a
+    /// command is there.
+    fn may_go(&self, young: Instant) -> bool {
+        if self.is_operators() {
+            !self.begun
+        } else {
+            self.since <= young
+        }
+    }
+
     /// Of those that may make room for another, the one with the least of these goes first: one whose peer
-    /// has all, one that waits since before `young`, one whose peer does not take what it was sent, each time
+    /// has all, one that waits and may go, one whose peer does not take what it was sent, each time
     /// the oldest. None where it may not go.
     pub(crate) fn rank(&self, young: Instant) -> Option<(u8, Instant)>
         ensures stays { (self.now.stage ≡ Stage.Ready) ⊎ (self.now.stage ≡ Stage.Standing) → IsNone result }
@@ -140,13 +194,20 @@ impl Connection {
         match self.stage {
             Stage::Leaving if self.has_kept() => Some((2, self.since)),
             Stage::Leaving => Some((0, self.since)),
-            Stage::Waiting if self.since <= young => Some((1, self.since)),
+            Stage::Waiting if self.may_go(young) => Some((1, self.since)),
             Stage::Waiting | Stage::Ready | Stage::Standing => None,
         }
     }
 
-    /// Looks at the bytes that came, and leaves them where they are.
-    pub(crate) fn look(&mut self, page: &mut [u8]) -> Look {
+    /// Looks at the bytes that came, and leaves them where they are; an operator's are taken.
+    pub(crate) fn look(&mut self, page: &mut [u8], now: Instant) -> Look {
+        if self.is_operators() {
+            return match self.flush(now) {
+                Ok(true) => self.look_for_command(page, now),
+                Ok(false) => Look::Part,
+                Err(_) => Look::Gone,
+            };
+        }
         match self.stream.peek(page) {
             Ok(0) => Look::Item,
             Ok(n) if n <= page.len() && ends_item(&page[..n]) => Look::Item,
@@ -159,10 +220,62 @@ impl Connection {
         }
     }
 
-    /// Receives what has come; `WouldBlock` where nothing has. Sends what is kept first.
+    /// Takes what came of the operator's commands, until one is whole.
+    fn look_for_command(&mut self, page: &mut [u8], now: Instant) -> Look {
+        let Some(commands) = &mut self.commands else {
+            return Look::Gone;
+        };
+        for _ in 0..READS {
+            if commands.find() {
+                return Look::Item;
+            }
+            let most = page.len().min(commands.room());
+            let n = match self.stream.read(&mut page[..most]) {
+                Ok(n) => n,
+                Err(e) if e.kind() == ErrorKind::WouldBlock => return Look::Part,
+                Err(_) => return Look::Gone,
+            };
+            if n == 0 {
+                self.at_end = true;
+                return Look::Over;
+            }
+            if commands.take(&page[..n]).is_err() {
+                return Look::Gone;
+            }
+            if !self.begun {
+                self.begun = true;
+                self.since = now;
+            }
+        }
+        Look::Part
+    }
+
+    /// Whether its link may be followed by another: an operator's, where it is known where the next command begins, and the
+    /// peer is sent each answer whole.
+    pub(crate) fn goes_on(&self) -> bool {
+        match &self.commands {
+            Some(commands) => !commands.is_lost() && !self.owes,
+            None => false,
+        }
+    }
+
+    /// Its link is over, and it waits for the operator's next command.
+    pub(crate) fn go_on(&mut self, now: Instant) {
+        self.enter(Stage::Waiting, now);
+        if let Some(commands) = &mut self.commands {
+            commands.pass();
+            self.begun = commands.has_begun();
+        }
+    }
+
+    /// Receives what has come; `WouldBlock` where nothing has. Sends what is kept first. Of an operator's it gives
+    /// the command, and then its end.
     pub(crate) fn receive(&mut self, buf: &mut [u8], now: Instant) -> io::Result<usize>
         ensures bound { ReadsAtMost result buf.new }
     {
+        if let Some(commands) = &mut self.commands {
+            return Ok(commands.give(buf));
+        }
         self.flush(now)?;
         let n = self.stream.read(buf)?;
         self.at_end = n == 0 && !buf.is_empty();
@@ -174,6 +287,7 @@ impl Connection {
     pub(crate) fn send(&mut self, bytes: &[u8], now: Instant) -> io::Result<usize>
         ensures bound { WritesAtMost result bytes.now }
     {
+        self.owes = true;
         if !self.flush(now)? {
             return Err(ErrorKind::WouldBlock.into());
         }
@@ -185,11 +299,13 @@ impl Connection {
         self.moved = now;
         let rest = &bytes[n..];
         let most = rest.len().min(MOST_KEPT);
-        match self.kept.extend_from_slice(&rest[..most]) {
-            Ok(()) => Ok(n + most),
-            Err(_) if n > 0 => Ok(n),
-            Err(e) => Err(e.into()),
-        }
+        let sent = match self.kept.extend_from_slice(&rest[..most]) {
+            Ok(()) => n + most,
+            Err(_) if n > 0 => n,
+            Err(e) => return Err(e.into()),
+        };
+        self.owes = false;
+        Ok(sent)
     }
 
     /// Whether the system sends at once what it takes, and holds nothing back until the peer has what went before.

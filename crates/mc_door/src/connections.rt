@@ -13,6 +13,12 @@ use std::time::{Duration, Instant};
 /// may have.
 pub(crate) const MOST: usize = 1000;
 
+/// The most connections of the operator's, which are open beside those.
+pub(crate) const MOST_OPERATORS: usize = 8;
+
+/// The most connections in all.
+pub(crate) const MOST_OPEN: usize = MOST + MOST_OPERATORS;
+
 /// The most connections whose peers do not take what they were sent, beside that of the standing link.
 const MOST_SLOW: usize = 63;
 
@@ -42,8 +48,8 @@ impl Connections {
         ensures { IfOk result (λ c. c ≡ []) }
     {
         Ok(Connections {
-            table: Slab::with_capacity(alloc, MOST)?,
-            ready: VecDeque::with_capacity(alloc, MOST)?,
+            table: Slab::with_capacity(alloc, MOST_OPEN)?,
+            ready: VecDeque::with_capacity(alloc, MOST_OPEN)?,
             page: Vec::from_elem(alloc, 0, MAX_HEAD)?,
         })
     }
@@ -62,6 +68,17 @@ impl Connections {
 
     pub(crate) fn is_full(&self) -> bool {
         self.table.len() >= MOST
+    }
+
+    /// Whether as many of the operator's are open as may be.
+    pub(crate) fn is_full_of_operators(&self) -> bool {
+        let mut open: usize = 0;
+        for (_, connection) in self.table.iter() {
+            if connection.is_operators() {
+                open = open.saturating_add(1);
+            }
+        }
+        open >= MOST_OPERATORS
     }
 
     pub(crate) fn is_empty(&self) -> bool {
@@ -93,12 +110,17 @@ impl Connections {
         let Some(connection) = self.table.get_mut(key) else {
             return;
         };
+        let stays = !closed || connection.is_operators();
         let goes = match connection.stage() {
-            Stage::Waiting => match connection.look(&mut self.page) {
-                Look::Part if !closed => false,
+            Stage::Waiting => match connection.look(&mut self.page, now) {
+                Look::Part if stays => false,
                 Look::Part | Look::Item => {
                     connection.enter(Stage::Ready, now);
                     self.ready.push_back(key).is_err()
+                }
+                Look::Over => {
+                    connection.enter(Stage::Leaving, now);
+                    connection.leave(&mut self.page, now)
                 }
                 Look::Gone => true,
             },
@@ -114,6 +136,14 @@ impl Connections {
     pub(crate) fn has_begun(&self, key: usize) -> bool {
         match self.table.get(key) {
             Some(connection) => connection.has_begun(),
+            None => false,
+        }
+    }
+
+    /// Whether the connection came through the operator's door.
+    pub(crate) fn is_operators(&self, key: usize) -> bool {
+        match self.table.get(key) {
+            Some(connection) => connection.is_operators(),
             None => false,
         }
     }
@@ -168,6 +198,25 @@ impl Connections {
         }
     }
 
+    /// Whether the connection of the standing link goes on behind it.
+    pub(crate) fn goes_on(&self, key: usize) -> bool {
+        match self.table.get(key) {
+            Some(connection) => connection.goes_on(),
+            None => false,
+        }
+    }
+
+    /// Ends the standing link, and keeps its connection, which is an operator's: where its next command is whole already it
+    /// goes to the queue's end.
+    pub(crate) fn go_on(&mut self, key: usize, now: Instant)
+        ensures last { (self.new ≡ self.old) ⊎ (self.new ≡ self.old ++ key ∷ []) }
+    {
+        if let Some(connection) = self.table.get_mut(key) {
+            connection.go_on(now);
+        }
+        self.notice(key, false, now);
+    }
+
     /// Ends the standing link's connection, without waiting.
     pub(crate) fn part(&mut self, key: usize, now: Instant)
         ensures queue { self.new ≡ self.old }
@@ -195,10 +244,14 @@ impl Connections {
         self.table.retain(|_, c| !c.is_overdue(now));
     }
 
-    /// The connection that is the first to go where room is needed; None where none may.
-    pub(crate) fn first_to_go(&self, young: Instant) -> Option<usize> {
+    /// The connection that is the first to go where room is needed for another of a customer's, or of the operator's; None
+    /// where none may.
+    pub(crate) fn first_to_go(&self, young: Instant, is_operators: bool) -> Option<usize> {
         let mut first: Option<((u8, Instant), usize)> = None;
         for (key, connection) in self.table.iter() {
+            if connection.is_operators() != is_operators {
+                continue;
+            }
             if let Some(rank) = connection.rank(young) {
                 match first {
                     Some((least, _)) if least <= rank => {}
@@ -212,21 +265,23 @@ impl Connections {
         }
     }
 
-    /// Drops the connection, unless another look shows that it is ready. True where it is dropped.
+    /// Drops the connection, unless another look shows that it is ready, or that the operator's command began. True where it
+    /// is dropped.
     pub(crate) fn drop_silent(&mut self, key: usize, now: Instant) -> bool
         ensures last { (self.new ≡ self.old) ⊎ (self.new ≡ self.old ++ key ∷ []) }
     {
         self.notice(key, false, now);
-        if self.is_ready(key) {
+        if self.stays(key, now) {
             return false;
         }
         self.remove(key);
         true
     }
 
-    fn is_ready(&self, key: usize) -> bool {
+    /// Whether the connection may not go.
+    fn stays(&self, key: usize, now: Instant) -> bool {
         match self.table.get(key) {
-            Some(connection) => connection.stage() == Stage::Ready,
+            Some(connection) => connection.rank(now).is_none(),
             None => false,
         }
     }
@@ -254,9 +309,10 @@ impl Connections {
         }
     }
 
-    /// Drops all but those that still leave. True where there are some.
+    /// Drops all but those that still leave, and those whose peers have not taken an answer whole. True where there are some.
     pub(crate) fn keep_leaving(&mut self) -> bool {
-        self.table.retain(|_, c| c.stage() == Stage::Leaving);
+        self.table
+            .retain(|_, c| c.stage() == Stage::Leaving || c.has_kept());
         !self.table.is_empty()
     }
 }

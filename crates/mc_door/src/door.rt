@@ -1,8 +1,9 @@
 ghost use Rattle.std.specs.Io.{ReadsAtMost, WritesAtMost};
 
 use crate::connection::Connection;
-use crate::connections::{Connections, MOST};
+use crate::connections::{Connections, MOST, MOST_OPEN, MOST_OPERATORS};
 use crate::socket::Socket;
+use mio::net::TcpStream;
 use mio::{Events, Interest, Poll, Token};
 use std::alloc::{AllocError, Global};
 use std::io;
@@ -33,8 +34,8 @@ const LOOK: u64 = 20;
 /// How many connections are accepted at once.
 const MOST_AT_ONCE: usize = 256;
 
-/// The most events that are told at once: one for each connection, and one for the listening socket.
-const MOST_EVENTS: usize = MOST + 1;
+/// The most events that are told at once: one for each connection, and one for each listening socket.
+const MOST_EVENTS: usize = MOST_OPEN + 2;
 
 /// How many milliseconds pass, once there is no room, before connections that wait are dropped for others,
 /// so that many that come at once can tell what they ask.
@@ -54,6 +55,8 @@ const NO_DESCRIPTOR: [i32; 2] = [23, 24];
 
 const LISTENER: Token = Token(usize::MAX);
 
+const OPERATOR: Token = Token(usize::MAX - 1);
+
 /// Whether connections wait to be accepted, as far as is known.
 #[derive(Clone, Copy, Debug, PartialEq, Eq)]
 enum Accepting {
@@ -67,13 +70,22 @@ enum Accepting {
     Failing(Instant),
 }
 
-/// The listening socket, what waits at it, and the connections that are open.
+/// The listening socket of the operator's door.
+#[derive(Drop)]
+struct OperatorSocket {
+    socket: Socket,
+    // whether connections may wait at it
+    waited_for: bool,
+}
+
+/// The listening sockets, what waits at them, and the connections that are open.
 #[derive(Drop)]
 pub(crate) struct Door {
     alloc: Global,
     poll: Poll,
     events: Events,
     socket: Socket,
+    operators: Option<OperatorSocket>,
     connections: Connections,
     standing: Option<usize>,
     accepting: Accepting,
@@ -87,11 +99,12 @@ pub(crate) struct Door {
 }
 
 impl Door {
-    /// A door at this socket; None where the system gives no poll or no time.
+    /// A door at this socket, and at the operator's, where there is one; None where the system gives no poll or no time.
     pub(crate) fn open<R: Net, C: Clock>(
         rt: &R,
         alloc: Global,
         mut socket: Socket,
+        mut operators: Option<Socket>,
         clock: &C,
     ) -> Result<Option<Door>, AllocError> {
         let connections = Connections::new(alloc)?;
@@ -102,11 +115,21 @@ impl Door {
         if socket.register(poll.registry(), LISTENER).is_err() {
             return Ok(None);
         }
+        if let Some(socket) = &mut operators
+            && socket.register(poll.registry(), OPERATOR).is_err()
+        {
+            return Ok(None);
+        }
+        let operators = operators.map(|socket| OperatorSocket {
+            socket,
+            waited_for: true,
+        });
         Ok(Some(Door {
             alloc,
             poll,
             events,
             socket,
+            operators,
             connections,
             standing: None,
             accepting: Accepting::Going,
@@ -139,13 +162,23 @@ impl Door {
         Err(ErrorKind::TimedOut.into())
     }
 
+    /// Whether the standing link came through the operator's door.
+    pub(crate) fn is_operators(&self) -> bool {
+        match self.standing {
+            Some(key) => self.connections.is_operators(key),
+            None => false,
+        }
+    }
+
     /// Receives on the standing link; an error where its turn is over, or it is silent and another connection
-    /// is ready.
+    /// is ready. An operator's has no turn: its command is there whole.
     pub(crate) fn recv<C: Clock>(&mut self, clock: &C, buf: &mut [u8]) -> io::Result<usize>
         ensures bound { ReadsAtMost result buf.new }
     {
         let key = self.standing_key()?;
-        self.keep_turn(key, clock)?;
+        if !self.connections.is_operators(key) {
+            self.keep_turn(key, clock)?;
+        }
         for _ in 0..u64::MAX {
             let now = Instant::now(clock)?;
             match self.connections.receive(key, buf, now) {
@@ -183,13 +216,14 @@ impl Door {
         self.connections.sends_at_once(self.standing_key()?)
     }
 
-    /// Ends the standing link, where one stands, without waiting for its peer.
+    /// Ends the standing link, where one stands, without waiting for its peer. An operator's connection goes on.
     pub(crate) fn end<C: Clock>(&mut self, clock: &C) {
         let Some(key) = self.standing else {
             return;
         };
         self.standing = None;
         match Instant::now(clock) {
+            Ok(now) if self.connections.goes_on(key) => self.connections.go_on(key, now),
             Ok(now) => self.connections.part(key, now),
             Err(_) => self.connections.remove(key),
         }
@@ -197,10 +231,12 @@ impl Door {
 
     /// Ends the standing link, and sees to what is still under way to peers, for two seconds at most.
     pub(crate) fn finish<C: Clock>(mut self, clock: &C) {
-        self.end(clock);
         let Ok(start) = Instant::now(clock) else {
             return;
         };
+        if let Some(key) = self.standing {
+            self.connections.part(key, start);
+        }
         for _ in 0..u32::MAX {
             if !self.connections.keep_leaving() || self.turn_last(clock, start).is_err() {
                 return;
@@ -267,9 +303,10 @@ impl Door {
         self.poll.poll(&mut self.events, Some(wait))?;
         let now = Instant::now(clock)?;
         let waited_for = sort_out(&self.events, &mut self.connections, now);
-        if waited_for && self.accepting == Accepting::Idle {
+        if waited_for.customers && self.accepting == Accepting::Idle {
             self.accepting = Accepting::Going;
         }
+        self.accept_operators(waited_for.operators, now);
         if now.duration_since(self.swept) >= Duration::from_millis(TICK) {
             self.swept = now;
             self.connections.sweep(now);
@@ -322,7 +359,7 @@ impl Door {
     fn make_room(&mut self, now: Instant) -> bool {
         let young = self.young(now);
         for _ in 0..MOST {
-            let Some(key) = self.connections.first_to_go(young) else {
+            let Some(key) = self.connections.first_to_go(young, false) else {
                 return false;
             };
             if self.connections.drop_silent(key, now) {
@@ -352,13 +389,18 @@ impl Door {
 
     /// Accepts a connection. False where none waits.
     fn accept(&mut self, now: Instant) -> io::Result<bool> {
-        let mut stream = match self.socket.accept() {
-            Ok(stream) => stream,
+        match self.socket.accept() {
+            Ok(stream) => self.take(stream, false, now),
             Err(e) if e.kind() == ErrorKind::WouldBlock => return Ok(false),
             // It broke before it was accepted.
-            Err(e) if e.kind() == ErrorKind::ConnectionAborted => return Ok(true),
+            Err(e) if e.kind() == ErrorKind::ConnectionAborted => {}
             Err(e) => return Err(e),
-        };
+        }
+        Ok(true)
+    }
+
+    /// Takes in a connection that was accepted, where the poll tells of it.
+    fn take(&mut self, mut stream: TcpStream, is_operators: bool, now: Instant) {
         let token = Token(self.connections.next_key());
         let readable = Interest::READABLE;
         if self
@@ -367,10 +409,53 @@ impl Door {
             .register(&mut stream, token, readable)
             .is_ok()
         {
-            let connection = Connection::new(self.alloc, stream, now);
+            let connection = Connection::new(self.alloc, stream, is_operators, now);
             self.connections.insert(connection);
         }
-        Ok(true)
+    }
+
+    /// Accepts what waits at the operator's socket, where there is room or can be made. What can't be accepted now waits
+    /// until the door looks again.
+    fn accept_operators(&mut self, more: bool, now: Instant) {
+        for _ in 0..MOST_OPERATORS {
+            let Some(operators) = &mut self.operators else {
+                return;
+            };
+            operators.waited_for = operators.waited_for || more;
+            if !operators.waited_for || !self.has_operator_room(now) {
+                return;
+            }
+            self.accept_operator(now);
+        }
+    }
+
+    /// Accepts a connection of the operator's, where one waits.
+    fn accept_operator(&mut self, now: Instant) {
+        let Some(operators) = &mut self.operators else {
+            return;
+        };
+        match operators.socket.accept() {
+            Ok(stream) => self.take(stream, true, now),
+            Err(e) if e.kind() == ErrorKind::WouldBlock => operators.waited_for = false,
+            Err(_) => {}
+        }
+    }
+
+    /// Whether there is room for one more of the operator's connections, or the one that has been silent for the longest time
+    /// makes it.
+    fn has_operator_room(&mut self, now: Instant) -> bool {
+        if !self.connections.is_full_of_operators() {
+            return true;
+        }
+        for _ in 0..MOST_OPERATORS {
+            let Some(key) = self.connections.first_to_go(now, true) else {
+                return false;
+            };
+            if self.connections.drop_silent(key, now) {
+                return true;
+            }
+        }
+        false
     }
 
     /// Bears that accepting failed, as long as a connection is open, and a while longer.
@@ -387,12 +472,24 @@ impl Door {
     }
 }
 
-/// Sees to each connection where something happened. True where connections wait to be accepted.
-fn sort_out(events: &Events, connections: &mut Connections, now: Instant) -> bool {
-    let mut waited_for = false;
+/// Where connections wait to be accepted, as the poll tells it.
+#[derive(Clone, Copy)]
+struct WaitedFor {
+    customers: bool,
+    operators: bool,
+}
+
+/// Sees to each connection where something happened. At which sockets connections wait to be accepted.
+fn sort_out(events: &Events, connections: &mut Connections, now: Instant) -> WaitedFor {
+    let mut waited_for = WaitedFor {
+        customers: false,
+        operators: false,
+    };
     for event in events {
         if event.token() == LISTENER {
-            waited_for = true;
+            waited_for.customers = true;
+        } else if event.token() == OPERATOR {
+            waited_for.operators = true;
         } else {
             let closed = event.is_read_closed() || event.is_error();
             connections.notice(event.token().0, closed, now);
@@ -404,7 +501,7 @@ fn sort_out(events: &Events, connections: &mut Connections, now: Instant) -> boo
 /// Looks again at those that wait and have begun. The system tells of each arrival of bytes, so this finds
 /// nothing, unless it told one less.
 fn look_again(connections: &mut Connections, now: Instant) {
-    for key in 0..MOST {
+    for key in 0..MOST_OPEN {
         if connections.has_begun(key) {
             connections.notice(key, false, now);
         }

@@ -1,9 +1,11 @@
 use mio::net::{TcpListener, TcpStream, UnixListener, UnixStream};
 use mio::{Interest, Registry, Token};
+use std::alloc::Global;
+use std::fs::{DirBuilder, Permissions};
 use std::io::ErrorKind;
 use std::net::{Net, SocketAddr, ToSocketAddrs};
 use std::os::fd::OwnedFd;
-use std::os::unix::fs::FileTypeExt;
+use std::os::unix::fs::{DirBuilderExt, FileTypeExt, PermissionsExt};
 use std::rt::Files;
 use std::{fs, io, net};
 
@@ -25,6 +27,15 @@ impl Socket {
         } else {
             Ok(Socket::Tcp(bind_host(rt, address)?))
         }
+    }
+
+    /// A socket at this path, which its owner alone may use.
+    pub(crate) fn bind_for_owner<R: Net + Files>(
+        rt: &R,
+        alloc: Global,
+        path: &str,
+    ) -> io::Result<Socket> {
+        Ok(Socket::Unix(bind_hidden(rt, alloc, path)?))
     }
 
     /// Has the poll tell when connections wait.
@@ -88,6 +99,50 @@ fn bind_path<R: Net + Files>(rt: &R, path: &str) -> io::Result<UnixListener> {
             UnixListener::bind(rt, path)
         }
         bound => bound,
+    }
+}
+
+/// The mode of a folder that its owner alone may enter, and of a file that he alone may use.
+const FOLDER_MODE: u32 = 0o700;
+
+const FILE_MODE: u32 = 0o600;
+
+/// A socket at a path, as [`bind_path`] has it, whose file its owner alone may use at every moment: it is made in a folder that
+/// he alone may enter, PATH.d, gets its mode there, and then its name. The folder is taken away again, also where it was left.
+fn bind_hidden<R: Net + Files>(rt: &R, alloc: Global, path: &str) -> io::Result<UnixListener> {
+    if is_there(rt, path) && !is_left(rt, path) {
+        return Err(ErrorKind::AddrInUse.into());
+    }
+    let folder = format!(in alloc; "{path}.d")?;
+    let inside = format!(in alloc; "{path}.d/s")?;
+    take_away(rt, &folder, &inside);
+    DirBuilder::new()
+        .mode(FOLDER_MODE)
+        .create(rt, folder.as_str())?;
+    let bound = bind_inside(rt, &inside, path);
+    take_away(rt, &folder, &inside);
+    bound
+}
+
+/// A socket that is made at one path, gets its mode there, and then the other path.
+fn bind_inside<R: Net + Files>(rt: &R, inside: &str, path: &str) -> io::Result<UnixListener> {
+    let socket = UnixListener::bind(rt, inside)?;
+    fs::set_permissions(rt, inside, Permissions::from_mode(FILE_MODE))?;
+    fs::rename(rt, inside, path)?;
+    Ok(socket)
+}
+
+/// Takes away the folder and the socket in it, where they stand.
+fn take_away<R: Files>(rt: &R, folder: &str, inside: &str) {
+    let _ = fs::remove_file(rt, inside);
+    let _ = fs::remove_dir(rt, folder);
+}
+
+/// Whether a file of any kind stands at the path.
+fn is_there<R: Files>(rt: &R, path: &str) -> bool {
+    match fs::symlink_metadata(rt, path) {
+        Ok(_) => true,
+        Err(e) => e.kind() != ErrorKind::NotFound,
     }
 }
 

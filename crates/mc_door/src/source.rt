@@ -18,6 +18,9 @@ pub trait Source {
     fn send(&mut self, bytes: &[u8]) -> io::Result<usize>
         ensures bound { WritesAtMost result bytes.now };
 
+    /// Whether the standing link came through the operator's door; false where none stands.
+    fn is_operators(&self) -> bool;
+
     /// Ends the standing link, where one stands. What was sent on it still goes its way.
     fn end(&mut self);
 

@@ -5,7 +5,7 @@ use crate::faults::counted;
 use crate::passed::{Keeping, Passed};
 use mc_base::Moment;
 use mc_door::Source;
-use mc_outside::{Disk, DiskFault, Link, LinkFault, Outside};
+use mc_outside::{Disk, DiskFault, Doors, Link, LinkFault, Outside};
 use std::alloc::Global;
 use std::fs::OpenFile;
 use std::io;
@@ -262,4 +262,10 @@ impl<F: OpenFile + FileExt, S: Source, W: Write, C: Clock> Outside for Site<F, S
     ghost disk_keeps = { λ a b m. m.links };
 
     ghost sent_aside = { λ a ss e. silent_sent a ss e };
+}
+
+impl<F: OpenFile + FileExt, S: Source, W: Write, C: Clock> Doors for Site<F, S, W, C> {
+    fn is_operators(&self) -> bool {
+        self.source.is_operators()
+    }
 }

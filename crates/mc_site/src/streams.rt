@@ -44,6 +44,10 @@ impl<R: Read, W: Write, E: Eprint + Drop> Source for Streams<R, W, E> {
         self.output.write(bytes)
     }
 
+    fn is_operators(&self) -> bool {
+        false
+    }
+
     fn end(&mut self) {}
 
     fn finish(&mut self) {}

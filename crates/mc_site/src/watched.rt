@@ -114,6 +114,10 @@ impl<'a, S: Source> Source for Watched<'a, S> {
         self.source.send(bytes)
     }
 
+    fn is_operators(&self) -> bool {
+        self.source.is_operators()
+    }
+
     fn end(&mut self) {
         self.source.end();
     }

@@ -25,7 +25,9 @@ use Rattle.mc_top.specs.Refusals.{RefusesFounder, RefusesOperator, RefusesPieces
 use Rattle.mc_top.specs.Programs.{ServesOnce, TellsPlay, Founds, Operates, ordered, statement, settlement, Works, Reads, Ends, RunsAs, HasBook, IsDoneOrRefused, EndsWell, answered}
 use Rattle.mc_top.proofs.SayLemmas.{said_in_part}
 use Rattle.mc_top.proofs.RefusedLemmas.{with_reason, strange_reason, site_reason, wallet_reason, operator_reason, payment_reason, renewal_reason, lines_reason, retry_reason, pieces_reason, chain_reason}
-use Rattle.site_commands.proofs.EndLemmas.{Calm, served_grew, operated_grew, init_well, served_well, operated_well}
+use Rattle.site_commands.proofs.EndLemmas.{Calm, operated_grew, init_well, operated_well}
+use Rattle.door_commands.specs.Told.{EndsBy, DoubtsBy, BrokerObeys, BrokerDoubts, VendorObeys, VendorDoubts}
+use Rattle.mc_top.proofs.DoorLemmas.{serving_grew, serving_well}
 use Rattle.operator_command.specs.Operations.{OperationView}
 use Rattle.site_commands.specs.Serving.{HasSite}
 use Rattle.wallet_model.specs.Asks.{Asking}
@@ -85,12 +87,12 @@ grew : {O : Type 0} (link : O → LinkView) (disk : O → DiskView) {D : Type 0}
     → (link a).faults ≤ (link b).faults
 grew link disk book xs (commands.Once shop) a b status has calm obeys = obeys.2
 grew link disk book xs (commands.Init founder) a b status has calm obeys = omega (arith, obeys.0.1)
-grew link disk book xs (commands.Serve server) a b status has calm obeys = served_grew link disk untested (kind_number Vendor) server.links has.bytes a b status calm obeys.0 (obeys.1 has.bytes has.told)
+grew link disk book xs (commands.Serve server) a b status has calm obeys = serving_grew link disk Vendor (EndsBy VendorObeys) (DoubtsBy VendorDoubts) server.door server.links a b status has calm obeys
 grew {O = O} link disk book xs (commands.Play playing) a b status has calm obeys = omega (arith, ap (λ (o : O). (link o).faults) obeys.0)
 grew link disk book xs (commands.Operate operation) a b status has calm obeys = operated_grew link disk untested (kind_number Vendor) (operation_view operation) has.bytes a b status calm obeys.0 (obeys.1 has.bytes has.told)
 grew link disk book xs (commands.State stating) a b status has calm obeys = operated_grew link disk ordered (kind_number Vendor) (statement stating) has.site.bytes a b status calm obeys.0 (obeys.1 has.site.bytes has.site.told)
 grew link disk book xs (commands.BrokerInit founder) a b status has calm obeys = omega (arith, obeys.0.1)
-grew link disk book xs (commands.BrokerServe server) a b status has calm obeys = served_grew link disk untested (kind_number Broker) server.links has.bytes a b status calm obeys.0 (obeys.1 has.bytes has.told)
+grew link disk book xs (commands.BrokerServe server) a b status has calm obeys = serving_grew link disk Broker (EndsBy BrokerObeys) (DoubtsBy BrokerDoubts) server.door server.links a b status has calm obeys
 grew link disk book xs (commands.BrokerOperate operation) a b status has calm obeys = operated_grew link disk untested (kind_number Broker) (brokers.operation_view operation) has.bytes a b status calm obeys.0 (obeys.1 has.bytes has.told)
 grew link disk book xs (commands.Settle paying) a b status has calm obeys = operated_grew link disk ordered (kind_number Broker) settlement has.site.bytes a b status calm obeys.0 (obeys.1 has.site.bytes has.site.told)
 grew link disk book xs (commands.WalletInit founder) a b status has calm obeys = wallet_ends.init_grew link disk a b status (at_rest link disk a b calm) obeys.0
@@ -227,12 +229,12 @@ ends_well {O = O} link disk book command a c xs ys number has no_disk no_link no
     by_command : (command : Command) → HasBook (disk a) book xs command → Works link disk command a status b → Reads book command xs status ys → Calm link disk a b → EndsWell link disk book command a xs (number_of status) c
     by_command (commands.Once shop) has obeys reads calm = once_well shop (link a) (link b) status calm.link' obeys.0
     by_command (commands.Init founder) has obeys reads calm = founded_well link disk a b status calm Vendor (vendor_founder founder) obeys
-    by_command (commands.Serve server) has obeys reads calm = served_well link disk untested (kind_number Vendor) server.links a b status has (all_pass has.history) calm obeys.0 (obeys.1 has.bytes has.told)
+    by_command (commands.Serve server) has obeys reads calm = serving_well link disk Vendor (EndsBy VendorObeys) (DoubtsBy VendorDoubts) server.door server.links a b status has calm obeys
     by_command (commands.Play playing) has obeys reads calm = play_well playing.count status obeys.1
     by_command (commands.Operate operation) has obeys reads calm = did_well link disk a b status calm c read untested Vendor (operation_view operation) has (all_pass has.history) obeys
     by_command (commands.State stating) has obeys reads calm = did_well link disk a b status calm c read ordered Vendor (statement stating) has.site has.in_order obeys
     by_command (commands.BrokerInit founder) has obeys reads calm = founded_well link disk a b status calm Broker (broker_founder founder) obeys
-    by_command (commands.BrokerServe server) has obeys reads calm = served_well link disk untested (kind_number Broker) server.links a b status has (all_pass has.history) calm obeys.0 (obeys.1 has.bytes has.told)
+    by_command (commands.BrokerServe server) has obeys reads calm = serving_well link disk Broker (EndsBy BrokerObeys) (DoubtsBy BrokerDoubts) server.door server.links a b status has calm obeys
     by_command (commands.BrokerOperate operation) has obeys reads calm = did_well link disk a b status calm c read untested Broker (brokers.operation_view operation) has (all_pass has.history) obeys
     by_command (commands.Settle paying) has obeys reads calm = did_well link disk a b status calm c read ordered Broker settlement has.site has.in_order obeys
     by_command (commands.WalletInit founder) has obeys reads calm = wallet_founded_well link disk a b status calm founder.name obeys

@@ -4,3 +4,4 @@ pub mod Wallets
 pub mod Refusals
 pub mod Programs
 pub mod Proxying
+pub mod AtDoor

@@ -1,7 +1,7 @@
 -- What the program does by its words.
-use Rattle.std.specs.Prelude.{◌≡◌, ◌⊎◌, ◌≤◌, ℕ, zero, suc, List, length, Bool, true, false, Some, Result, Err}
+use Rattle.std.specs.Prelude.{◌≡◌, ◌⊎◌, ◌≤◌, ℕ, zero, suc, List, length, Bool, true, false, Option, Some, None, Result, Err}
 use Rattle.mc_outside.specs.DiskView.{DiskView, LinkKeeps}
-use Rattle.mc_outside.specs.LinkView.{LinkView}
+use Rattle.mc_outside.specs.LinkView.{LinkView, IsWhose}
 use Rattle.house_state.specs.declared.offer.SiteKind.{SiteKind}
 use Rattle.house_state.specs.declared.offer.SiteKind.TheVariants.{Vendor, Broker}
 use Rattle.house_state.specs.Views.{kind_number}
@@ -18,6 +18,11 @@ use Rattle.vendor_commands.specs.Play.{ArePlayLines}
 use Rattle.mc_top.specs.Saying.{Says}
 use Rattle.command_status.specs.Statuses.{number_of, line_of}
 use Rattle.site_commands.specs.Serving.{HasSite, ServesBook, ServeCauses}
+use Rattle.house_doors.specs.declared.command.TheConstants.{MOST_TOLD}
+use Rattle.house_doors.specs.Commands.{Endings, Doubts}
+use Rattle.house_doors.specs.Links.{HadEither, DoubtsEither}
+use Rattle.door_commands.specs.Open.{OpensBook}
+use Rattle.door_commands.specs.Told.{EndsBy, DoubtsBy, BrokerObeys, BrokerDoubts, VendorObeys, VendorDoubts}
 use Rattle.site_commands.specs.Init.{FoundsBook, InitCauses}
 use Rattle.site_commands.specs.Operator.{OperatesBook, OperateCauses}
 use Rattle.operator_command.specs.Operations.{OperationView}
@@ -66,6 +71,24 @@ abbrev pub Serves : {O : Type 0} → (O → LinkView) → (O → DiskView) → S
 Serves link disk kind links a status b =
     ServeCauses link disk links a status b × ((bytes : List ℕ) → (disk a).contents ≡ Some bytes → ServesBook link disk untested (kind_number kind) links bytes a status b)
 
+-- Serving so many links, of which some are its operator's: what he tells there ends so, and such an entry may be in doubt.
+abbrev pub Opens : {O : Type 0} → (O → LinkView) → (O → DiskView) → SiteKind → Endings → Doubts → ℕ → O → Status → O → Type 0
+Opens link disk kind ends doubts links a status b =
+    ServeCauses link disk links a status b
+    × ((bytes : List ℕ) → (disk a).contents ≡ Some bytes → OpensBook link disk (HadEither IsWhose ends MOST_TOLD) (DoubtsEither IsWhose doubts MOST_TOLD) untested (kind_number kind) links bytes a status b)
+
+-- with a door for the operator, where the words name one
+abbrev pub ServesAt : {O : Type 0} → (O → LinkView) → (O → DiskView) → SiteKind → Endings → Doubts → Option (List ℕ) → ℕ → O → Status → O → Type 0
+ServesAt link disk kind ends doubts None links a status b = Serves link disk kind links a status b
+ServesAt link disk kind ends doubts (Some path) links a status b = Opens link disk kind ends doubts links a status b
+
+-- a vendor and a broker
+abbrev pub ServesShelf : {O : Type 0} → (O → LinkView) → (O → DiskView) → Option (List ℕ) → ℕ → O → Status → O → Type 0
+ServesShelf link disk door links a status b = ServesAt link disk Vendor (EndsBy VendorObeys) (DoubtsBy VendorDoubts) door links a status b
+
+abbrev pub ServesDesk : {O : Type 0} → (O → LinkView) → (O → DiskView) → Option (List ℕ) → ℕ → O → Status → O → Type 0
+ServesDesk link disk door links a status b = ServesAt link disk Broker (EndsBy BrokerObeys) (DoubtsBy BrokerDoubts) door links a status b
+
 abbrev pub Operates : {O : Type 0} → (O → LinkView) → (O → DiskView) → Test → SiteKind → OperationView → O → Status → O → Type 0
 Operates link disk passes kind operation a status b =
     OperateCauses link disk operation a status b
@@ -87,12 +110,12 @@ settlement = settling
 abbrev pub Works : {O : Type 0} → (O → LinkView) → (O → DiskView) → Command → O → Status → O → Type 0
 Works link disk (commands.Once shop) a status b = ServesOnce shop (link a) status (link b) × LinkKeeps (disk a) (disk b) × ((link a).faults ≤ (link b).faults)
 Works link disk (commands.Init founder) a status b = Founds link disk Vendor (vendor_founder founder) a status b
-Works link disk (commands.Serve server) a status b = Serves link disk Vendor server.links a status b
+Works link disk (commands.Serve server) a status b = ServesShelf link disk server.door server.links a status b
 Works link disk (commands.Play playing) a status b = (b ≡ a) × TellsPlay playing.count status
 Works link disk (commands.Operate operation) a status b = Operates link disk untested Vendor (operation_view operation) a status b
 Works link disk (commands.State stating) a status b = Operates link disk ordered Vendor (statement stating) a status b
 Works link disk (commands.BrokerInit founder) a status b = Founds link disk Broker (broker_founder founder) a status b
-Works link disk (commands.BrokerServe server) a status b = Serves link disk Broker server.links a status b
+Works link disk (commands.BrokerServe server) a status b = ServesDesk link disk server.door server.links a status b
 Works link disk (commands.BrokerOperate operation) a status b = Operates link disk untested Broker (brokers.operation_view operation) a status b
 Works link disk (commands.Settle paying) a status b = Operates link disk ordered Broker settlement a status b
 Works link disk (commands.WalletInit founder) a status b = Inits link disk founder.name a status b

@@ -1,13 +1,16 @@
 //! The top of the program: what its words name, and what it does by them over the outside.
 #![tactic(auto)]
 
+mod at_door;
 mod named;
 mod naming;
 mod program;
 mod proxying;
+mod serving;
 mod wallet;
 mod whole_link;
 
+pub use at_door::{MOST_ANSWER, run_at_door};
 pub use named::Places;
 pub use naming::places;
 pub use program::{Ran, run};

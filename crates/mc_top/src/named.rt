@@ -10,8 +10,12 @@ pub struct Places {
     pub founds: bool,
     /// The books that the command only reads.
     pub books: List<List<u8>>,
+    /// Whether it is a command of a site's operator that he may give at the door of the site, too, while that is served.
+    pub operates: bool,
     /// Where the links come.
     pub listen: Option<List<u8>>,
+    /// Where the operator of the site that is served gives commands meanwhile.
+    pub door: Option<List<u8>>,
     /// Where a link goes.
     pub connect: Option<List<u8>>,
 }

@@ -28,10 +28,10 @@ fn command_places(alloc: Global, command: &Command<'_>) -> Result<Places, NoMemo
         Command::Init(founder) => founded(alloc, founder.book()),
         Command::BrokerInit(founder) => founded(alloc, founder.book()),
         Command::Serve(server) | Command::BrokerServe(server) => served(alloc, server),
-        Command::Operate(operation) => operated(alloc, operation.book()),
-        Command::State(stating) => operated(alloc, stating.book()),
-        Command::BrokerOperate(operation) => operated(alloc, operation.book()),
-        Command::Settle(settling) => operated(alloc, settling.book()),
+        Command::Operate(operation) => operated(alloc, operation.book(), true),
+        Command::State(stating) => operated(alloc, stating.book(), false),
+        Command::BrokerOperate(operation) => operated(alloc, operation.book(), true),
+        Command::Settle(settling) => operated(alloc, settling.book(), false),
         Command::WalletInit(founder) => founded(alloc, founder.book()),
         Command::WalletOperate(operation) => connected(alloc, operation),
         Command::Report(reporting) => audited(alloc, reporting.books()),
@@ -59,7 +59,9 @@ fn proxy_places(alloc: Global, proxying: &Proxying<'_>) -> Result<Places, NoMemo
         site: Some(list_of(alloc, proxying.book())?),
         founds: false,
         books: List::of(Vec::new(alloc)),
+        operates: false,
         listen: Some(list_of(alloc, proxying.listen())?),
+        door: None,
         connect: Some(list_of(alloc, proxying.connect())?),
     })
 }
@@ -72,7 +74,9 @@ fn nowhere(alloc: Global) -> Places
         site: None,
         founds: false,
         books: List::of(Vec::new(alloc)),
+        operates: false,
         listen: None,
+        door: None,
         connect: None,
     }
 }
@@ -85,7 +89,9 @@ fn founded(alloc: Global, book: &[u8]) -> Result<Places, NoMemory>
         site: Some(list_of(alloc, book)?),
         founds: true,
         books: List::of(Vec::new(alloc)),
+        operates: false,
         listen: None,
+        door: None,
         connect: None,
     })
 }
@@ -94,24 +100,32 @@ fn founded(alloc: Global, book: &[u8]) -> Result<Places, NoMemory>
 fn served(alloc: Global, server: &Server<'_>) -> Result<Places, NoMemory>
     ensures { IfOk result (λ places. places ≡ served_places server.now) }
 {
+    let door = match server.door() {
+        Some(path) => Some(list_of(alloc, path)?),
+        None => None,
+    };
     Ok(Places {
         site: Some(list_of(alloc, server.book())?),
         founds: false,
         books: List::of(Vec::new(alloc)),
+        operates: false,
         listen: Some(list_of(alloc, server.listen())?),
+        door,
         connect: None,
     })
 }
 
-/// The places of an operation for this book.
-fn operated(alloc: Global, book: &[u8]) -> Result<Places, NoMemory>
-    ensures { IfOk result (λ places. places ≡ operated_places book.now) }
+/// The places of an operation for this book, which may be given at a door, too, or not.
+fn operated(alloc: Global, book: &[u8], operates: bool) -> Result<Places, NoMemory>
+    ensures { IfOk result (λ places. places ≡ operated_places book.now operates) }
 {
     Ok(Places {
         site: Some(list_of(alloc, book)?),
         founds: false,
         books: List::of(Vec::new(alloc)),
+        operates,
         listen: None,
+        door: None,
         connect: None,
     })
 }
@@ -128,7 +142,9 @@ fn connected(alloc: Global, operation: &WalletOperation<'_>) -> Result<Places, N
         site: Some(list_of(alloc, operation.book())?),
         founds: false,
         books: List::of(Vec::new(alloc)),
+        operates: false,
         listen: None,
+        door: None,
         connect,
     })
 }
@@ -145,7 +161,9 @@ fn audited(alloc: Global, books: &[&str]) -> Result<Places, NoMemory>
         site: None,
         founds: false,
         books: List::of(lists),
+        operates: false,
         listen: None,
+        door: None,
         connect: None,
     })
 }

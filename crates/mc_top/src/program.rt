@@ -14,6 +14,7 @@ ghost use Rattle.vendor_commands.specs.Operations.{operation_view};
 ghost use Rattle.broker_commands.specs.Operations as brokers;
 ghost use Rattle.mc_top.specs.Programs.{ServesOnce, TellsPlay, Operates, ordered, settlement, statement, Audits, AuditsTree, Tells, Obeys, Ends, Refuses, RunsAs, HasBook, EndsWell, HaveOtherBooks, count_of};
 
+use crate::serving::{serve_desk, serve_shelf};
 use crate::wallet::work;
 use audit_cmd::{report_books, report_tree, tell_chains};
 use broker_commands::DeskOperation;
@@ -22,10 +23,10 @@ use command_status::Status;
 use counted_trade::Counted;
 use house_serving::BenchEnd;
 use mc_base::NoMemory;
-use mc_outside::{Disk, Link, Outside};
+use mc_outside::{Disk, Doors, Link, Outside};
 use mc_words::{Command, command_of};
 use settle_commands::{SeriesStatement, StatementPayment};
-use site_commands::{found_book, operate_book, serve_book};
+use site_commands::{found_book, operate_book};
 use site_words::{BrokerOperation, Operation, Playing, Shop, Stating};
 use std::alloc::Global;
 use vendor_commands::{VendorOperation, answer_play, serve_once};
@@ -47,8 +48,9 @@ pub struct Ran<O, D> {
 /// `vendor once NAME TARGET PRICE SECRET CONTENTS` serves one link by a house in memory, and touches no
 /// disk. `vendor play COUNT` plays so many heads that it makes itself by such a house, and says what it counted.
 /// `vendor init BOOK NAME PERIOD LIFE SCRIP CUSTOMER [--keep S] [--clear]` founds a vendor in the
-/// book on the outside's disk. `vendor serve BOOK LISTEN LINKS` serves so many links by the house of that
-/// book, or all that come. `vendor goods`, `vendor price`, `vendor licence`, `vendor mint` and `vendor upgrade` enter into
+/// book on the outside's disk. `vendor serve BOOK LISTEN LINKS [--door PATH]` serves so many links by the house of that
+/// book, or all that come; where there is a door, the links that came through it are its operator's, and each brings one of
+/// his commands, which is done as over the book that is closed. `vendor goods`, `vendor price`, `vendor licence`, `vendor mint` and `vendor upgrade` enter into
 /// that book what its operator says, at the reading of the clock; the contents of goods come on one link.
 /// `broker init` founds a broker, with its FEE behind CUSTOMER, and `broker serve` serves its links. `broker account`,
 /// `broker deposit`, `broker withdraw`, `broker licence`, `broker stock` and `broker upgrade` enter into its book what its
@@ -72,7 +74,7 @@ pub struct Ran<O, D> {
 /// be founded has bytes already (50), that the book that is opened is of a site of another kind (52), or what rules
 /// refuse an operator, a customer or an auditor. A line says how it ended; where it can't be said, 0
 /// becomes 6, and any other status stays. 8: a stranger stands in the books. The outside and the books are handed back.
-pub fn run<O: Outside, D: Disk>(alloc: Global, words: &[String], out: O, books: Vec<D>) -> Ran<O, D>
+pub fn run<O: Doors, D: Disk>(alloc: Global, words: &[String], out: O, books: Vec<D>) -> Ran<O, D>
     ensures books { AllZip (λ a b. OnlyRead (D.disk a) (D.disk b)) books.items result.books.items }
     ensures words { result.status ≡ 2 → AreOfNoRow (map string_bytes words.now)
         ⊎ HaveOtherBooks (map string_bytes words.now) (length books.items) }
@@ -131,7 +133,7 @@ fn book_count(command: &Command<'_>) -> usize
 }
 
 /// Does what a command says, and tells how it ended.
-fn obey<O: Outside, D: Disk>(
+fn obey<O: Doors, D: Disk>(
     alloc: Global,
     command: &Command<'_>,
     mut out: O,
@@ -152,20 +154,14 @@ fn obey<O: Outside, D: Disk>(
             let done = found_book(alloc, &founder.founder(), Shelf::new(alloc), out);
             beside(done, books)
         }
-        Command::Serve(server) => {
-            let done = serve_book(alloc, server.links(), Shelf::new(alloc), out);
-            beside(done, books)
-        }
+        Command::Serve(server) => beside(serve_shelf(alloc, server, out), books),
         Command::Operate(operation) => beside(operate_shelf(alloc, operation, out), books),
         Command::State(stating) => beside(state(alloc, stating, out), books),
         Command::BrokerInit(founder) => {
             let done = found_book(alloc, &founder.founder(), Desk::new(alloc), out);
             beside(done, books)
         }
-        Command::BrokerServe(server) => {
-            let done = serve_book(alloc, server.links(), Desk::new(alloc), out);
-            beside(done, books)
-        }
+        Command::BrokerServe(server) => beside(serve_desk(alloc, server, out), books),
         Command::BrokerOperate(operation) => beside(operate_desk(alloc, operation, out), books),
         Command::Settle(_) => beside(settle(alloc, out), books),
         Command::WalletInit(founder) => beside(init(alloc, founder.name(), out), books),
@@ -303,7 +299,7 @@ pub(crate) fn end<O: Outside>(out: O, status: Status) -> (O, u8)
 }
 
 /// The number that is answered where a line was said, or could not be said.
-fn answered(is_said: bool, number: u8) -> u8
+pub(crate) fn answered(is_said: bool, number: u8) -> u8
     ensures number { result ≡ programs.answered is_said number }
     ensures other { (result ≡ 2) ↔ (number ≡ 2) }
 {
@@ -314,7 +310,7 @@ fn answered(is_said: bool, number: u8) -> u8
 }
 
 /// Says a line, where there is one, and answers whether it was said whole; where there is none nothing can fail.
-fn say<O: Outside>(mut out: O, line: &[u8]) -> (O, bool)
+pub(crate) fn say<O: Outside>(mut out: O, line: &[u8]) -> (O, bool)
     ensures said { Says line.now result.1 (O.link out) (O.link result.0) }
     ensures keeps { LinkKeeps (O.disk out) (O.disk result.0) }
 {

@@ -78,7 +78,7 @@ fn proxy<O: Outside, U: Link>(
 }
 
 /// How the program ends with a status, whose line is said.
-fn answer<O: Outside>(out: O, status: Status) -> (u8, O)
+pub(crate) fn answer<O: Outside>(out: O, status: Status) -> (u8, O)
     ensures ends { Ends O.link O.disk status out result.1 result.0 }
     ensures number { (result.0 ≡ 2) ↔ (number_of status ≡ 2) }
 {

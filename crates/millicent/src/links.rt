@@ -37,6 +37,8 @@ pub(crate) struct Listening<'a> {
     pub(crate) book: &'a str,
     /// The address, or the path of the socket.
     pub(crate) place: String,
+    /// The path of its operator's door, where it has one.
+    pub(crate) door: Option<&'a str>,
 }
 
 impl<'a> Announced<'a> {
@@ -69,6 +71,11 @@ impl<'a> Listening<'a> {
                 let _ = eprintln!(rt; "millicent: {book} listens at {place}");
             }
         }
+        if let Some(door) = self.door {
+            let _ = eprintln!(rt;
+                "millicent: its operator's commands come to {door}, in the place of the book"
+            );
+        }
     }
 }
 
@@ -86,6 +93,10 @@ impl<'a> Source for Announced<'a> {
 
     fn send(&mut self, bytes: &[u8]) -> io::Result<usize> {
         self.links.send(bytes)
+    }
+
+    fn is_operators(&self) -> bool {
+        self.links.is_operators()
     }
 
     fn end(&mut self) {
@@ -119,6 +130,14 @@ impl<'a> Source for Links<'a> {
             Links::To(caller) => caller.send(bytes),
             Links::From(links) => links.send(bytes),
             Links::Over(streams) => streams.send(bytes),
+        }
+    }
+
+    fn is_operators(&self) -> bool {
+        match self {
+            Links::To(caller) => caller.is_operators(),
+            Links::From(links) => links.is_operators(),
+            Links::Over(streams) => streams.is_operators(),
         }
     }
 

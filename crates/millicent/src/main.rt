@@ -14,12 +14,13 @@ use diagnostics::{
     tell_unopened, tell_usage, word,
 };
 use mc_base::NoMemory;
-use mc_door::{Listener, call, call_each, listen};
+use mc_door::{Listener, call, call_each, call_path, listen};
 use mc_site::{Book, Metered, Passed, Progress, Site, Streams, Watched, Wiping, reading};
-use mc_top::{Places, places, run, run_proxy};
+use mc_top::{Places, places, run, run_at_door, run_proxy};
 use std::alloc::{AllocError, Global};
 use std::fs::File;
-use std::io::{IsTerminal, Stdout, Write};
+use std::io::{ErrorKind, IsTerminal, Stdin, Stdout, Write};
+use std::os::unix::fs::FileTypeExt;
 use std::process::ExitCode;
 use std::{env, fs, io};
 
@@ -92,7 +93,8 @@ struct Task<'a> {
 /// Opens what the words name, does what they say, and answers the status. A book that is missing is made
 /// only where the command founds it. Where a place to connect to is named the one link goes there; where one to listen at
 /// is named too, links come to that one, and each page that is asked for on them has a link of its own to the other. Where
-/// there is neither, standard input and output are the one link.
+/// there is neither, standard input and output are the one link. An operator's command that names the door of a site, in the
+/// place of its book, is given there, and no book is opened.
 fn start(rt: &HostRuntime, words: &[String], places: &Places) -> u8 {
     let progress = Progress::new(rt);
     let task = Task {
@@ -101,6 +103,9 @@ fn start(rt: &HostRuntime, words: &[String], places: &Places) -> u8 {
         places,
         progress: &progress,
     };
+    if let Some(path) = door_named(&task) {
+        return tell_door(&task, path);
+    }
     let Ok(others) = open_all(&task) else {
         return end(rt, b"no memory\n", 5);
     };
@@ -144,16 +149,25 @@ fn output<'a>(task: &Task<'a>) -> Wiping<'a, Stdout> {
     Wiping::new(task.rt.stdout(), task.progress)
 }
 
-/// The links that come to this address. Which address is no loopback is told; and, as links are taken, who listens where, and that
-/// the book's name leads to another file. An Err is want of memory.
+/// The links that come to this address, and to the operator's door, where the words name one; and what a fault of them is told
+/// of. Which address is no loopback is told; and, as links are taken, who listens where, and that the book's name leads to
+/// another file. An Err is want of memory.
 fn door<'a>(
     task: &Task<'a>,
     book: &Shown<'_>,
     survey: Option<Survey>,
-    address: &str,
-) -> Result<Links<'a>, AllocError> {
+    address: &'a str,
+) -> Result<(Links<'a>, &'a str), AllocError> {
     let rt = task.rt;
-    let source = listen(rt, rt.alloc(), address, rt)?;
+    let operators = match &task.places.door {
+        Some(path) => Some(text(path.slice())),
+        None => None,
+    };
+    let source = listen(rt, rt.alloc(), address, operators, rt)?;
+    let at = match operators {
+        Some(path) if source.lacks_door() => path,
+        _ => address,
+    };
     tell_clear(rt, source.address());
     let path = match &task.places.site {
         Some(path) => text(path.slice()),
@@ -164,12 +178,13 @@ fn door<'a>(
             survey,
             book: path,
             place: place_of(rt, &source, address)?,
+            door: operators,
         })
     } else {
         None
     };
     let links = Watched::new(source, rt, path, book);
-    Ok(Links::From(Announced::new(links, rt, listening)))
+    Ok((Links::From(Announced::new(links, rt, listening)), at))
 }
 
 /// Where a listener listens: at the address that the system has for it, with the port that it chose, or at the path of the words.
@@ -185,21 +200,21 @@ fn place_of(
 }
 
 /// Runs a command that serves links which come to this address.
-fn serve(
-    task: &Task<'_>,
+fn serve<'a>(
+    task: &Task<'a>,
     book: Shown<'_>,
     others: Vec<Shown<'_>>,
     survey: Option<Survey>,
-    address: &str,
+    address: &'a str,
 ) -> u8 {
     let rt = task.rt;
-    let Ok(source) = door(task, &book, survey, address) else {
+    let Ok((source, at)) = door(task, &book, survey, address) else {
         return end(rt, b"no memory\n", 5);
     };
     let out = Site::new(book, source, output(task), rt);
     let ran = run(rt.alloc(), task.words, out, others);
     task.progress.end();
-    let link = (address, ran.out.link_fault());
+    let link = (at, ran.out.link_fault());
     tell_fault(rt, OUTPUT, ran.out.said_fault());
     let book = ran.out.finish();
     tell_faults(task, ran.status, &book, link);
@@ -208,9 +223,15 @@ fn serve(
 }
 
 /// Runs the command of a wallet that pays for what is asked on links which come to this address, over links to a peer.
-fn pay(task: &Task<'_>, book: Shown<'_>, survey: Option<Survey>, address: &str, peer: &str) -> u8 {
+fn pay<'a>(
+    task: &Task<'a>,
+    book: Shown<'_>,
+    survey: Option<Survey>,
+    address: &'a str,
+    peer: &str,
+) -> u8 {
     let rt = task.rt;
-    let Ok(source) = door(task, &book, survey, address) else {
+    let Ok((source, at)) = door(task, &book, survey, address) else {
         return end(rt, b"no memory\n", 5);
     };
     let none: Book<File> = Book::none();
@@ -218,7 +239,7 @@ fn pay(task: &Task<'_>, book: Shown<'_>, survey: Option<Survey>, address: &str, 
     let out = Site::new(book, source, output(task), rt);
     let (status, out) = run_proxy(rt.alloc(), task.words, out, &mut up);
     task.progress.end();
-    let link = (address, out.link_fault());
+    let link = (at, out.link_fault());
     tell_fault(rt, OUTPUT, out.said_fault());
     let book = out.finish();
     tell_faults(task, status, &book, link);
@@ -230,12 +251,7 @@ fn pay(task: &Task<'_>, book: Shown<'_>, survey: Option<Survey>, address: &str, 
 /// Runs a command whose one link is standard input and output, or which has none.
 fn work(task: &Task<'_>, book: Shown<'_>, others: Vec<Shown<'_>>) -> u8 {
     let rt = task.rt;
-    let asks = if rt.stdin().is_terminal() {
-        Some(rt)
-    } else {
-        None
-    };
-    let source = Links::Over(Streams::new(rt.stdin(), rt.stdout(), asks));
+    let source = Links::Over(streams(rt));
     let mut out = Site::new(book, source, output(task), rt);
     out.keep(rt.alloc());
     let ran = run(rt.alloc(), task.words, out, others);
@@ -255,6 +271,66 @@ fn work(task: &Task<'_>, book: Shown<'_>, others: Vec<Shown<'_>>) -> u8 {
         leave(rt, text(path.slice()), ran.out.book());
     }
     ran.status
+}
+
+/// The one link over standard input and output.
+fn streams(rt: &HostRuntime) -> Streams<Stdin, Stdout, &HostRuntime> {
+    let asks = if rt.stdin().is_terminal() {
+        Some(rt)
+    } else {
+        None
+    };
+    Streams::new(rt.stdin(), rt.stdout(), asks)
+}
+
+/// The path of a site's door, which the words of an operator's command name in the place of its book: a Unix socket stands there.
+fn door_named<'a>(task: &Task<'a>) -> Option<&'a str> {
+    let path = text(task.places.site.as_ref()?.slice());
+    if task.places.operates && is_socket(task.rt, path) {
+        Some(path)
+    } else {
+        None
+    }
+}
+
+/// Whether a Unix socket stands at the path.
+fn is_socket(rt: &HostRuntime, path: &str) -> bool {
+    match fs::symlink_metadata(rt, path) {
+        Ok(file) => file.file_type().is_socket(),
+        Err(_) => false,
+    }
+}
+
+/// Gives an operator's command to the site that is served, at its door. Its input is standard input. No book is opened.
+fn tell_door(task: &Task<'_>, path: &str) -> u8 {
+    let rt = task.rt;
+    let none: Book<File> = Book::none();
+    let mut door = Site::new(none, call_path(rt, path), rt.stdout(), rt);
+    let book = Book::none().metered("", task.progress);
+    let mut out = Site::new(book, Links::Over(streams(rt)), output(task), rt);
+    out.keep(rt.alloc());
+    let (status, out) = run_at_door(rt.alloc(), task.words, out, &mut door);
+    task.progress.end();
+    if status == 6 {
+        tell_fault(rt, STREAMS, out.link_fault());
+        tell_fault(rt, path, door.link_fault());
+        tell_unserved(rt, path, door.source().reason());
+    }
+    tell_fault(rt, OUTPUT, out.said_fault());
+    tell_work(rt, task.words, status, out.book(), out.passed());
+    status
+}
+
+/// Tells why there was no link to a door, where there was none, and what to do.
+fn tell_unserved(rt: &HostRuntime, path: &str, reason: Option<io::Error>) {
+    match reason {
+        Some(e) if e.kind() == ErrorKind::ConnectionRefused => {
+            let _ = eprintln!(rt;
+                "millicent: {path}: nobody serves there: start the site with --door {path}, or name its book"
+            );
+        }
+        reason => tell_fault(rt, path, reason),
+    }
 }
 
 /// How messages name the link over standard input and output.
@@ -407,8 +483,28 @@ fn or_none(task: &Task<'_>, path: &str, opened: io::Result<Book<File>>) -> Book<
         Ok(book) => book,
         Err(error) => {
             tell_unopened(task.rt, task.words, path, task.places.founds, &error);
+            tell_doors(task, path, error.kind());
             Book::none()
         }
+    }
+}
+
+/// Tells of the door of a site where its book was named that is served, and that a door was named where a book is needed.
+fn tell_doors(task: &Task<'_>, path: &str, kind: ErrorKind) {
+    let rt = task.rt;
+    if is_socket(rt, path) {
+        let _ = eprintln!(rt;
+            "millicent: {path} is a socket, as the door of a site is: this command needs the book, and the site stopped"
+        );
+        return;
+    }
+    if kind == ErrorKind::WouldBlock
+        && task.places.operates
+        && let Ok(door) = format!(in rt.alloc(); "{path}.door")
+        && is_socket(rt, &door)
+    {
+        let door = door.as_str();
+        let _ = eprintln!(rt; "millicent: the site that serves it takes this command at {door}");
     }
 }
 

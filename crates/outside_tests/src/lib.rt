@@ -9,6 +9,8 @@ mod caller;
 #[cfg(test)]
 mod callers;
 #[cfg(test)]
+mod door;
+#[cfg(test)]
 mod help;
 #[cfg(test)]
 mod input_faults;

@@ -12,25 +12,25 @@ use std::test::Fail;
 use std::time::Duration;
 use std::{env, fs, io, process};
 
-const HEAD: &[u8] = b"GET /news/1 HTTP/1.1\r\nHost: news.example\r\n\r\n";
+pub(crate) const HEAD: &[u8] = b"GET /news/1 HTTP/1.1\r\nHost: news.example\r\n\r\n";
 
 /// A clock that goes on by so many milliseconds at each reading, and where it is set on.
 #[derive(Drop)]
-struct Dial {
+pub(crate) struct Dial {
     millis: Cell<u64>,
     step: u64,
 }
 
 impl Dial {
     /// At 0.
-    fn new(step: u64) -> Dial {
+    pub(crate) fn new(step: u64) -> Dial {
         Dial {
             millis: Cell::new(0),
             step,
         }
     }
 
-    fn set_on(&self, millis: u64) {
+    pub(crate) fn set_on(&self, millis: u64) {
         self.millis.set(self.millis.get().saturating_add(millis));
     }
 }
@@ -48,7 +48,11 @@ impl Clock for Dial {
 }
 
 /// A connection to a listener, on which these bytes were sent. It does not wait forever.
-fn peer_of<C>(rt: &HostRuntime, links: &Listener<C>, bytes: &[u8]) -> io::Result<TcpStream> {
+pub(crate) fn peer_of<C>(
+    rt: &HostRuntime,
+    links: &Listener<C>,
+    bytes: &[u8],
+) -> io::Result<TcpStream> {
     let Some(address) = links.address() else {
         return Err(ErrorKind::NotConnected.into());
     };
@@ -88,7 +92,7 @@ fn answered<C: Clock>(links: &mut Listener<C>, peer: &mut TcpStream) -> io::Resu
 
 #[test]
 fn the_first_whole_head_is_the_first_served(rt: HostRuntime) -> Result<(), Fail> {
-    let mut links = listen(&rt, rt.alloc(), "127.0.0.1:0", &rt)?;
+    let mut links = listen(&rt, rt.alloc(), "127.0.0.1:0", None, &rt)?;
     let _silent = peer_of(&rt, &links, b"")?;
     let mut slow = peer_of(&rt, &links, &HEAD[..20])?;
     let mut peer = peer_of(&rt, &links, HEAD)?;
@@ -109,7 +113,7 @@ fn whole_first<C: Clock>(
 
 #[test]
 fn an_idle_link_gives_way_by_a_fault(rt: HostRuntime) -> Result<(), Fail> {
-    let mut links = listen(&rt, rt.alloc(), "127.0.0.1:0", &rt)?;
+    let mut links = listen(&rt, rt.alloc(), "127.0.0.1:0", None, &rt)?;
     let mut idle = peer_of(&rt, &links, HEAD)?;
     assert_eq!(rt; taken(&mut links)?, HEAD.len());
     let _other = peer_of(&rt, &links, HEAD)?;
@@ -129,7 +133,7 @@ fn gives_way<C: Clock>(
 
 #[test]
 fn the_last_reply_arrives(rt: HostRuntime) -> Result<(), Fail> {
-    let mut links = listen(&rt, rt.alloc(), "127.0.0.1:0", &rt)?;
+    let mut links = listen(&rt, rt.alloc(), "127.0.0.1:0", None, &rt)?;
     let mut peer = peer_of(&rt, &links, HEAD)?;
     arrives(&rt, &mut links, &mut peer)
 }
@@ -190,7 +194,7 @@ fn read_much(slow: &mut Slow<'_>, most: usize) -> io::Result<usize> {
 #[test]
 fn a_reply_that_is_not_taken_holds_up_nobody(rt: HostRuntime) -> Result<(), Fail> {
     let dial = Dial::new(0);
-    let mut links = listen(&rt, rt.alloc(), "127.0.0.1:0", &dial)?;
+    let mut links = listen(&rt, rt.alloc(), "127.0.0.1:0", None, &dial)?;
     let idle = peer_of(&rt, &links, HEAD)?;
     assert!(rt; links.next()?);
     let other = peer_of(&rt, &links, HEAD)?;
@@ -212,7 +216,7 @@ fn holds_up_nobody(rt: &impl Abort, slow: &mut Slow<'_>) -> Result<(), Fail> {
 
 #[test]
 fn a_connection_has_its_time(rt: HostRuntime) -> Result<(), Fail> {
-    let mut links = listen(&rt, rt.alloc(), "127.0.0.1:0", Dial::new(31_000))?;
+    let mut links = listen(&rt, rt.alloc(), "127.0.0.1:0", None, Dial::new(31_000))?;
     let mut silent = peer_of(&rt, &links, b"")?;
     let _peer = peer_of(&rt, &links, HEAD)?;
     is_ended(&rt, &mut links, &mut silent)
@@ -232,7 +236,7 @@ fn is_ended<C: Clock>(
 
 #[test]
 fn bytes_leave_at_once(rt: HostRuntime) -> Result<(), Fail> {
-    let mut links = listen(&rt, rt.alloc(), "127.0.0.1:0", &rt)?;
+    let mut links = listen(&rt, rt.alloc(), "127.0.0.1:0", None, &rt)?;
     let _peer = peer_of(&rt, &links, HEAD)?;
     assert!(rt; links.next()?);
     assert!(rt; links.sends_at_once()?);
@@ -249,14 +253,14 @@ fn peer_at(rt: &HostRuntime, path: &str) -> io::Result<TcpStream> {
 
 /// Whether links come to a listener at this path.
 fn is_served(rt: &HostRuntime, path: &str) -> Result<bool, Fail> {
-    let mut links = listen(rt, rt.alloc(), path, rt)?;
+    let mut links = listen(rt, rt.alloc(), path, None, rt)?;
     let mut peer = peer_at(rt, path)?;
     Ok(answered(&mut links, &mut peer)? == (HEAD.len(), 5))
 }
 
 /// Whether no link can be taken at this path.
 fn is_taken(rt: &HostRuntime, path: &str) -> Result<bool, Fail> {
-    let mut links = listen(rt, rt.alloc(), path, rt)?;
+    let mut links = listen(rt, rt.alloc(), path, None, rt)?;
     Ok(links.next().is_err())
 }
 
@@ -273,7 +277,7 @@ fn a_path_is_taken_from_the_gone_alone(rt: HostRuntime) -> Result<(), Fail> {
 /// Whether a socket that nobody serves any more gives way, and one that is served does not.
 fn is_taken_from_the_gone(rt: &HostRuntime, path: &str) -> Result<bool, Fail> {
     let gives_way = is_served(rt, path)? && is_served(rt, path)?;
-    let _links = listen(rt, rt.alloc(), path, rt)?;
+    let _links = listen(rt, rt.alloc(), path, None, rt)?;
     Ok(gives_way && is_taken(rt, path)?)
 }
 

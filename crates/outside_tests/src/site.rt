@@ -77,7 +77,7 @@ fn last(rt: &impl Abort, peer: &mut TcpStream) -> Result<(), Fail> {
 
 #[test]
 fn links_over_connections(rt: HostRuntime) -> Result<(), Fail> {
-    let source = listen(&rt, rt.alloc(), "127.0.0.1:0", &rt)?;
+    let source = listen(&rt, rt.alloc(), "127.0.0.1:0", None, &rt)?;
     let Some(address) = source.address() else {
         return Err(ErrorKind::NotConnected.into());
     };
@@ -93,7 +93,7 @@ fn links_over_connections(rt: HostRuntime) -> Result<(), Fail> {
 #[test]
 fn no_listener_no_links(rt: HostRuntime) -> Result<(), Fail> {
     let book: Book<File> = Book::none();
-    let source = listen(&rt, rt.alloc(), "no address", &rt)?;
+    let source = listen(&rt, rt.alloc(), "no address", None, &rt)?;
     let mut site = Site::new(book, source, Vec::new(rt.alloc()), &rt);
     assert_eq!(rt; site.next_link(), Err(LinkFault));
     assert_eq!(rt; site.next_link(), Err(LinkFault));

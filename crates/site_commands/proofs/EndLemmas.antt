@@ -27,7 +27,7 @@ use Rattle.site_commands.proofs.OpenLaws.{not_unlawful, not_of_other}
 same_count : (v w : LinkView) → w ≡ v → v.faults ≤ w.faults
 same_count v w same = let is : w.faults ≡ v.faults = ap (λ (u : LinkView). u.faults) same in omega (arith, is)
 
-unopened_grew : {O : Type 0} (link : O → LinkView) (disk : O → DiskView) (passes : Test) (kind : ℕ) (bytes : List ℕ) (a b : O) (status : Status) → NotOpened link disk passes kind bytes a status b → (link a).faults ≤ (link b).faults
+pub unopened_grew : {O : Type 0} (link : O → LinkView) (disk : O → DiskView) (passes : Test) (kind : ℕ) (bytes : List ℕ) (a b : O) (status : Status) → NotOpened link disk passes kind bytes a status b → (link a).faults ≤ (link b).faults
 unopened_grew link disk passes kind bytes a b ends.Done not = absurd not
 unopened_grew link disk passes kind bytes a b (ends.Served n) not = absurd not
 unopened_grew link disk passes kind bytes a b (ends.Founded name) not = absurd not
@@ -84,7 +84,7 @@ operated_grew link disk passes kind operation bytes a b status calm causes (inr 
 -- ---- how it ends
 
 -- it was opened, unless memory was refused
-only_memory : {O : Type 0} (link : O → LinkView) (disk : O → DiskView) (passes : Test) (kind : ℕ) (Own : Status → O → O → Type 0) (h : History) (bytes : List ℕ) (a b : O) (status : Status) → Encodes h bytes → IsLawful full h → AllPass passes h
+pub only_memory : {O : Type 0} (link : O → LinkView) (disk : O → DiskView) (passes : Test) (kind : ℕ) (Own : Status → O → O → Type 0) (h : History) (bytes : List ℕ) (a b : O) (status : Status) → Encodes h bytes → IsLawful full h → AllPass passes h
     → site_kind h ≡ Some kind → Calm link disk a b → BookCauses link disk Own a status b → NotOpened link disk passes kind bytes a status b → number_of status ≡ 5
 only_memory link disk passes kind Own h bytes a b ends.Done st lawful pass of_kind calm causes not = absurd not
 only_memory link disk passes kind Own h bytes a b (ends.Served n) st lawful pass of_kind calm causes not = absurd not

@@ -100,7 +100,7 @@ switching_values s = (s.book, tt)
 -- of `broker serve` likewise
 unfoldable pub server_values : Server → ValuesOf (form_of names.VendorServe).parameters
 unfolding form_of
-server_values s = (s.book, (s.listen, (s.links, tt)))
+server_values s = (s.book, (s.listen, (s.links, (s.door, tt))))
 
 unfoldable pub playing_values : Playing → ValuesOf (form_of names.VendorPlay).parameters
 unfolding form_of

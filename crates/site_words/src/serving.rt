@@ -1,6 +1,6 @@
 //! Sites that are served, and heads that are played.
 
-ghost use Rattle.std.specs.Prelude.{◌≡◌};
+ghost use Rattle.std.specs.Prelude.{◌≡◌, option_map};
 ghost use Rattle.command_table.specs.Ranges.{IsWithin};
 ghost use Rattle.command_table.specs.Table.{Gives};
 ghost use Rattle.command_table.specs.declared.table.CommandName.TheVariants.{VendorPlay, VendorServe};
@@ -8,6 +8,7 @@ ghost use Rattle.site_words.specs.Words.{playing_values, server_values};
 
 use command_table::{
     Heads, Links, MOST_HEADS, MOST_LINKS, Parameter, Place, listen_in, number_in, place_in,
+    socket_in,
 };
 use command_words::Found;
 
@@ -20,10 +21,12 @@ pub struct Server<'a> {
     pub listen: Place<'a>,
     /// How many links are taken at most.
     pub links: Links,
+    /// Where the site's operator gives commands meanwhile, if he may.
+    pub door: Option<Place<'a>>,
 }
 
 impl<'a> Server<'a> {
-    /// `vendor serve BOOK LISTEN LINKS`, and `broker serve` likewise.
+    /// `vendor serve BOOK LISTEN LINKS [--door PATH]`, and `broker serve` likewise.
     #[tactic(auto, unfolding(command_table::specs::Table::form_of, crate::specs::Words::server_values))]
     pub fn read(found: &Found<'a>) -> Option<Server<'a>>
         ensures { Gives VendorServe server_values found.now result }
@@ -31,10 +34,12 @@ impl<'a> Server<'a> {
         let book = place_in(found, Parameter::Book)?;
         let listen = listen_in(found, Parameter::Listen)?;
         let links = number_in(found, Parameter::Links)?;
+        let door = socket_in(found, Parameter::Door)?;
         Some(Server {
             book,
             listen,
             links,
+            door,
         })
     }
 
@@ -58,6 +63,16 @@ impl<'a> Server<'a> {
         ensures range { IsWithin 1 MOST_LINKS self.now.links }
     {
         self.links.get() as u32
+    }
+
+    /// Where the site's operator gives commands meanwhile, if he may: the path of a Unix socket.
+    pub fn door(&self) -> Option<&'a [u8]>
+        ensures { option_map (λ p. p.now) result ≡ self.now.door }
+    {
+        match &self.door {
+            Some(place) => Some(place.bytes()),
+            None => None,
+        }
     }
 }
 

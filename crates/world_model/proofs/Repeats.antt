@@ -57,7 +57,7 @@ parted_at (x ∷ xs) (suc at) e is =
     let r = parted_at xs at e is in
     record { more = r.more; is = ap (λ (es : History). x ∷ es) r.is; long = ap (λ (n : ℕ). suc n) r.long }
 
-in_time : (h : History) (at : ℕ) (e : Entry) → slice_get h at ≡ Some e → moment_of e ≤ time h
+pub in_time : (h : History) (at : ℕ) (e : Entry) → slice_get h at ≡ Some e → moment_of e ≤ time h
 in_time [] at e is = absurd cc
 in_time (x ∷ xs) zero e is = let same : moment_of x ≡ moment_of e = ap moment_of (got_is x e (Some x) refl is) in omega (arith, same)
 in_time (x ∷ xs) (suc at) e is = let ih = in_time xs at e is in omega (arith, ih)
@@ -140,7 +140,7 @@ taken_for limits before zero p e none allowed holds = absurd holds
 taken_for limits before (suc zero) p e none allowed holds = absurd holds
 taken_for limits before (suc (suc ask)) p e none allowed holds = absurd holds
 
-answers_again : (limits : Limits) (h : History) (at : ℕ) (e : Entry) (p : Pending) (later : ℕ) → IsLawful limits h → slice_get h at ≡ Some e → NoneWhereDraw p.ask p.scrip → IsHeldBy (take at h) p.ask p e
+pub answers_again : (limits : Limits) (h : History) (at : ℕ) (e : Entry) (p : Pending) (later : ℕ) → IsLawful limits h → slice_get h at ≡ Some e → NoneWhereDraw p.ask p.scrip → IsHeldBy (take at h) p.ask p e
     → moment_of e ≤ later → later < moment_of e + keeping h → answer h later limits (asked_by p) ≡ answers.Again at
 answers_again limits h at e p later lawful is none holds le lt =
     let may = may_at limits h at e lawful is in

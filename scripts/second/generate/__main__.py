@@ -10,7 +10,7 @@ from pathlib import Path
 # In place of this folder, whose modules have names of their own there.
 sys.path[0] = str(Path(__file__).resolve().parents[1])
 
-WRITERS = ("sites", "markets", "desks", "wallets", "payments", "versions", "chains", "settlement", "trees", "renewals", "proxies", "schedules")
+WRITERS = ("sites", "markets", "desks", "wallets", "payments", "versions", "chains", "settlement", "trees", "renewals", "proxies", "schedules", "doors")
 
 
 def main():

@@ -10,6 +10,9 @@ returns-in-Listen c = spells_as _ _ c.in-Listen.is c.may_listen.ensures
 pub returns-in-Connect : goal.returns-in-Connect
 returns-in-Connect c = spells_as _ _ c.in-Connect.is c.may_connect.ensures
 
+pub returns-in-Socket : goal.returns-in-Socket
+returns-in-Socket c = spells_as _ _ c.in-Socket.is c.may_socket.ensures
+
 pub returns-in-Name : goal.returns-in-Name
 returns-in-Name c = spells_as _ _ c.in-Name.is c.may_name.ensures
 
