@@ -21,9 +21,12 @@ use Rattle.house_state.specs.HouseState.{HouseStateView, size_with}
 use Rattle.house_state.specs.Representation.{StateRepresents, has_ended}
 use Rattle.house_state.specs.Verdicts.{accept_entry, WasAsked}
 use Rattle.house_core.specs.Bench.{Represents, HasContents, IsRoomed, limits_of, IsHouse}
-use Rattle.house_core.specs.House.{HouseRepresents, IsAsItWas, HasEntered, AskedFor, Responds, Leaves, HouseRests}
-use Rattle.house_core.specs.declared.outcome.Outcome.TheVariants.{Done, Refused}
-use Rattle.house_core.specs.declared.outcome.Response.TheVariants.{Again}
+use Rattle.house_core.specs.House.{HouseRepresents, IsAsItWas, HasEntered, AskedFor, Responds, Accepted, Leaves, HouseRests}
+use Rattle.house_core.specs.declared.outcome.Outcome.TheVariants.{Done, Refused, NoMemory, Halted}
+use Rattle.house_core.specs.declared.outcome.Response.{Response}
+use Rattle.house_core.specs.declared.outcome.Response.TheVariants.{New, Again}
+use Rattle.house_core.specs.SettledView.{SettledView}
+use Rattle.mc_requests.specs.declared.refusal.Refusal.TheVariants.{Spent}
 use Rattle.mc_requests.specs.declared.refusal.Refusal.{Refusal}
 use Rattle.scrip_form.specs.Scrip.{Scrip}
 use Rattle.mc_requests.specs.Requests.{Asked}
@@ -119,6 +122,64 @@ pub ran_again : {D T : Type 0} (A : Type 0) (u v : DiskView) (a : Answer) (x : H
     → Ran u v (EncodesNoOutput h aside) → Ran u v (Leaves {D = D} {T = T} {A = A} a (Done x r) h aside)
 ran_again {D = D} {T = T} A u v a x r n h aside e ran =
     subst (λ (b : Answer). Ran u v (Leaves {D = D} {T = T} {A = A} b (Done x r) h aside)) e ran
+
+-- ---- a call that is not for repeats
+
+-- what it comes to, by what the answer to any request comes to
+pub accepted_new : {D T : Type 0} (view : D → DiskView) (trade : T → TradeView) (disk : D) (h : History) (a : Answer) (x : HouseView D T) (s : SettledView)
+    → Responds view trade disk h a (Done x (New s)) → Accepted view trade disk h a (Done x s)
+accepted_new view trade disk h (answers.Take e) x s is = is
+accepted_new view trade disk h (answers.Again m) x s is = absurd is
+accepted_new view trade disk h (answers.Refused f) x s is = absurd is
+
+pub accepted_again : {D T : Type 0} (view : D → DiskView) (trade : T → TradeView) (disk : D) (h : History) (a : Answer) (x : HouseView D T) (n : ℕ)
+    → Responds view trade disk h a (Done x (Again n)) → Accepted view trade disk h a (Refused x Spent)
+accepted_again view trade disk h (answers.Take e) x n is = absurd is
+accepted_again view trade disk h (answers.Again m) x n is = (refl, is.1)
+accepted_again view trade disk h (answers.Refused f) x n is = absurd is
+
+pub accepted_refused : {D T : Type 0} (view : D → DiskView) (trade : T → TradeView) (disk : D) (h : History) (a : Answer) (x : HouseView D T) (g : Refusal)
+    → Responds view trade disk h a (Refused x g) → Accepted view trade disk h a (Refused x g)
+accepted_refused view trade disk h (answers.Take e) x g is = absurd is
+accepted_refused view trade disk h (answers.Again m) x g is = absurd is
+accepted_refused view trade disk h (answers.Refused f) x g is = is
+
+pub accepted_no_memory : {D T : Type 0} (view : D → DiskView) (trade : T → TradeView) (disk : D) (h : History) (a : Answer) (x : HouseView D T)
+    → Responds view trade disk h a (NoMemory x) → Accepted view trade disk h a (NoMemory x)
+accepted_no_memory view trade disk h (answers.Take e) x is = is
+accepted_no_memory view trade disk h (answers.Again m) x is = absurd is
+accepted_no_memory view trade disk h (answers.Refused f) x is = absurd is
+
+-- and its crash pairs
+pub ran_new : {D T : Type 0} (u v : DiskView) (a : Answer) (x : HouseView D T) (s : SettledView) (h : History) (aside : List ℕ)
+    → Ran u v (Leaves {D = D} {T = T} {A = Response} a (Done x (New s)) h aside) → Ran u v (Leaves {D = D} {T = T} {A = SettledView} a (Done x s) h aside)
+ran_new u v (answers.Take e) x s h aside ran = ran
+ran_new u v (answers.Again m) x s h aside ran = ran
+ran_new u v (answers.Refused f) x s h aside ran = ran
+
+pub ran_repeat : {D T : Type 0} (view : D → DiskView) (trade : T → TradeView) (disk : D) (u v : DiskView) (h : History) (a : Answer) (x : HouseView D T) (n : ℕ) (aside : List ℕ) → Responds view trade disk h a (Done x (Again n))
+    → Ran u v (Leaves {D = D} {T = T} {A = Response} a (Done x (Again n)) h aside) → Ran u v (Leaves {D = D} {T = T} {A = SettledView} a (Refused x Spent) h aside)
+ran_repeat view trade disk u v h (answers.Take e) x n aside is ran = absurd is
+ran_repeat view trade disk u v h (answers.Again m) x n aside is ran = ran
+ran_repeat view trade disk u v h (answers.Refused f) x n aside is ran = ran
+
+pub ran_same_refused : {D T : Type 0} (u v : DiskView) (a : Answer) (x : HouseView D T) (g : Refusal) (h : History) (aside : List ℕ)
+    → Ran u v (Leaves {D = D} {T = T} {A = Response} a (Refused x g) h aside) → Ran u v (Leaves {D = D} {T = T} {A = SettledView} a (Refused x g) h aside)
+ran_same_refused u v (answers.Take e) x g h aside ran = ran
+ran_same_refused u v (answers.Again m) x g h aside ran = ran
+ran_same_refused u v (answers.Refused f) x g h aside ran = ran
+
+pub ran_no_memory : {D T : Type 0} (u v : DiskView) (a : Answer) (x : HouseView D T) (h : History) (aside : List ℕ)
+    → Ran u v (Leaves {D = D} {T = T} {A = Response} a (NoMemory x) h aside) → Ran u v (Leaves {D = D} {T = T} {A = SettledView} a (NoMemory x) h aside)
+ran_no_memory u v (answers.Take e) x h aside ran = ran
+ran_no_memory u v (answers.Again m) x h aside ran = ran
+ran_no_memory u v (answers.Refused f) x h aside ran = ran
+
+pub ran_halted : {D : Type 0} (T : Type 0) (u v : DiskView) (a : Answer) (d : D) (h : History) (aside : List ℕ)
+    → Ran u v (Leaves {D = D} {T = T} {A = Response} a (Halted d) h aside) → Ran u v (Leaves {D = D} {T = T} {A = SettledView} a (Halted d) h aside)
+ran_halted T u v (answers.Take e) d h aside ran = ran
+ran_halted T u v (answers.Again m) d h aside ran = ran
+ran_halted T u v (answers.Refused f) d h aside ran = ran
 
 -- ---- an entry that accepts nothing
 

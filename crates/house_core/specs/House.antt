@@ -6,7 +6,7 @@ use Rattle.mc_outside.specs.DiskView.{DiskView}
 use Rattle.mc_requests.specs.declared.limits.Limits.{Limits}
 use Rattle.mc_records.specs.Entry.{Entry}
 use Rattle.mc_requests.specs.declared.refusal.Refusal.{Refusal}
-use Rattle.mc_requests.specs.declared.refusal.Refusal.TheVariants.{SeriesFull}
+use Rattle.mc_requests.specs.declared.refusal.Refusal.TheVariants.{SeriesFull, Spent}
 use Rattle.ledger_model.specs.Histories.{History}
 use Rattle.ledger_model.specs.Houses.{own_series}
 use Rattle.ledger_model.specs.Lawful.{MayFollow}
@@ -21,6 +21,7 @@ use Rattle.scrip_journal.specs.States.{IsJournal}
 use Rattle.scrip_journal.specs.Rests.{RestsAs, rests_none, rests_then}
 use Rattle.scrip_journal.specs.Exits.{EncodesNoOutput, EitherNoOutput}
 use Rattle.house_core.specs.HouseView.{HouseView}
+use Rattle.house_core.specs.SettledView.{SettledView}
 use Rattle.house_core.specs.declared.outcome.Outcome.{Outcome}
 use Rattle.house_core.specs.declared.outcome.Response.{Response}
 use Rattle.house_core.specs.declared.outcome.Response.TheVariants.{New, Again}
@@ -130,6 +131,16 @@ Responds view trade disk h (answers.Take e) (Halted d) = Rose (view disk).faults
 Responds view trade disk h (answers.Refused f) (Refused x g) = (g ≡ f) × IsAsItWas view trade disk x h
 Responds view trade disk h (answers.Again n) (Done x (Again m)) = (m ≡ n) × IsAsItWas view trade disk x h
 Responds view trade disk h _ _ = ⊥
+
+-- The same, where a request that comes again is not for the call: it is refused as one whose piece is
+-- spent, and the house stays as it was.
+abbrev pub Accepted : {D T : Type 0} → (D → DiskView) → (T → TradeView) → D → History → Answer → Outcome D T SettledView → Type 0
+Accepted view trade disk h (answers.Take e) (Done x s) = HasEntered view trade x h e s.number × AskedFor h (house_time x.bench) e s.fresh
+Accepted view trade disk h (answers.Take e) (NoMemory x) = IsAsItWas view trade disk x h
+Accepted view trade disk h (answers.Take e) (Halted d) = Rose (view disk).faults (view d).faults
+Accepted view trade disk h (answers.Refused f) (Refused x g) = (g ≡ f) × IsAsItWas view trade disk x h
+Accepted view trade disk h (answers.Again n) (Refused x g) = (g ≡ Spent) × IsAsItWas view trade disk x h
+Accepted view trade disk h _ _ = ⊥
 
 -- Of an entry by a command, likewise. It is refused where it does not fit the journal; one that is entered fits, and one
 -- that is in doubt since the disk failed may follow, and fits.

@@ -171,9 +171,31 @@ impl<T: Trade> Bench<T> {
         time
     }
 
-    /// Accepts a request at the house time: enters its entry, whose reply is kept, and answers its number, from 0. Where
-    /// the request comes again nothing is entered, and the number of the entry that it repeats is answered. What is told to
-    /// it is counted in a tally.
+    /// Accepts a request at the house time: enters its entry, and answers the entry's number, from 0. Where
+    /// the request comes again it enters nothing, and answers the number of the entry that it repeats.
+    /// The reply of the entry is kept; a house that kept none keeps them from here on, for one second.
+    pub fn accept(&mut self, q: &Request<'_>) -> Result<u64, BenchFault>
+        ensures kept { IfOk result (KeepsReply self.new) }
+        ensures site { IfErr result FaultIsOfSite }
+        ensures time { house_time self.new ≡ house_time self.old }
+        ensures limits { limits_of self.new ≡ limits_of self.old }
+        ensures tally { tally_of self.new ≡ tally_of self.old }
+        ensures within { IsTallied self.old → IsTallied self.new }
+        ensures used { AreUsed (windows_of self.old) → AreUsed (windows_of self.new) }
+        ensures exact { (h : History) → IsHouse T.trade self.old h
+            → Accepts T.trade self.new h (model.answer h (house_time self.old) (limits_of self.old) (asked_of q.now)) result }
+        ensures contents { (h : History) → Represents T.trade self.old h
+            → HasContents T.trade self.old h
+            → KeepsContents T.trade self.new h (model.answer h (house_time self.old) (limits_of self.old) (asked_of q.now)) result }
+    {
+        self.state.keep_some();
+        match self.respond(&Presented::of(*q), &mut Tally::none()) {
+            Ok(number) => Ok(number.number()),
+            Err(fault) => Err(fault),
+        }
+    }
+
+    /// Accepts a request, as [`Bench::accept`] does, where replies are kept, and counts in a tally what is told to it.
     pub(crate) fn respond(
         &mut self,
         q: &Presented<'_>,

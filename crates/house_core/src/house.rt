@@ -26,7 +26,7 @@ ghost use Rattle.house_state.specs.Replying.{IsOfSite};
 ghost use Rattle.house_state.specs.declared.verdict.Verdict.TheVariants as verdicts;
 ghost use Rattle.house_state.specs.Verdicts.{judged, judged_of, authorized_entry, payload_of, BringsAs, IsOfNew, MayCommit, OfDeed};
 ghost use Rattle.house_core.specs.Refusing.{IsAmong};
-ghost use Rattle.house_core.specs.House.{HouseRepresents, HandsBack, HasRun, KeepsTime, RaisedTo, IfDone, IfRefused, Responds, Entered, Leaves, number_in, outcome_disk};
+ghost use Rattle.house_core.specs.House.{HouseRepresents, HandsBack, HasRun, KeepsTime, RaisedTo, IfDone, IfRefused, Accepted, Responds, Entered, Leaves, number_in, outcome_disk};
 
 use crate::bench::{Bench, entry_of};
 use crate::fault::EnterFault;
@@ -206,6 +206,31 @@ impl<D: Disk, T: Trade> House<D, T> {
             → HouseRepresents D.disk T.trade self.new h }
     {
         self.bench.raise(reading)
+    }
+
+    /// Accepts a request at the house time: its entry is on the disk behind an open gate, and then it is
+    /// entered. All memory is taken before anything is written. A request that comes again is not for
+    /// this call: `respond` tells it apart, and here it is refused as one whose piece is spent.
+    pub fn accept(self, q: &Request<'_>) -> Outcome<D, T, Settled>
+        requires target { IsTarget q.now.target.now }
+        ensures back { HandsBack D.disk D.disk_moved (KeepsTime self) self.journal.disk result }
+        ensures site { IfRefused IsOfSite result }
+        ensures kept { IfDone (λ x s. KeepsReply x.bench s.number) result }
+        ensures exact { (h : History) → HouseRepresents D.disk T.trade self h
+            → Accepted D.disk T.trade self.journal.disk h (model.answer h (house_time self.bench) (limits_of self.bench) (asked_of q.now)) result }
+        ensures ran { (h : History) → HouseRepresents D.disk T.trade self h
+            → Ran (D.disk self.journal.disk) (D.disk (outcome_disk result))
+            (Leaves (model.answer h (house_time self.bench) (limits_of self.bench) (asked_of q.now)) result h (D.disk self.journal.disk).aside) }
+    {
+        match self.respond(&Presented::of(*q)) {
+            Outcome::Done(house, response) => match response {
+                Response::New(settled) => Outcome::Done(house, settled),
+                Response::Again(_) => Outcome::Refused(house, Refusal::Spent),
+            },
+            Outcome::Refused(house, refusal) => Outcome::Refused(house, refusal),
+            Outcome::NoMemory(house) => Outcome::NoMemory(house),
+            Outcome::Halted(halted) => Outcome::Halted(halted),
+        }
     }
 
     /// Answers a request at the house time. Where it is new, its entry is on the disk behind an open gate,

@@ -1,8 +1,8 @@
 //! A house: a site that takes scrip and gives something for it, by what it keeps and what it says of a
 //! request. Here is how it takes an entry and how it answers, in memory or over a journal.
 //!
-//! `new` and `replay` of a bench take memory, of one that is only read too, and so do the calls `respond`, `answer` and `enter` of a
-//! bench or of a house. No other call of this crate does.
+//! `new` and `replay` of a bench take memory, of one that is only read too, and so do the calls `accept`, `respond`, `answer` and
+//! `enter` of a bench or of a house. No other call of this crate does.
 #![tactic(auto)]
 
 mod answering;

@@ -9,8 +9,9 @@ use std::marker::Model;
 
 /// What says that a request was accepted, and that its entry is on the disk behind an open gate. It is
 /// not let go by itself: it has to be spent, by sending its reply, or by [`drop_settled`] where no reply
-/// can be sent. Only `House::respond` makes one, from a [`Receipt`] and, where a piece was accepted, from the proof that
-/// the windows were asked for its identity. Contracts see it as the record `SettledView`.
+/// can be sent. Only `House::respond` makes one, which `House::accept` calls, from a [`Receipt`] and, where
+/// a piece was accepted, from the proof that the windows were asked for its identity. Contracts see it as the record
+/// `SettledView`.
 pub struct Settled {
     pub(crate) receipt: Receipt,
     /// The number under which the house keeps the entry's reply.
