@@ -6,11 +6,11 @@ use mc_base::{Amount, Coin, Total};
 use scrip_form::Name;
 use std::marker::Model;
 
-/// One account: its name, its key, its balance, which is 2^60 units at most, and its last order, 0
+/// An account: its name, its key, its balance, which is 2^60 units at most, and its last order, 0
 /// before the first. Contracts see it as the record `AccountView`. The balance comes first, since its
 /// place is a multiple of 16 bytes.
 #[derive(Drop)]
-pub(crate) struct Account {
+pub struct Account {
     balance: Total,
     last: u64,
     name: Name,
@@ -48,14 +48,23 @@ impl Account {
         self.key
     }
 
-    pub(crate) fn balance(&self) -> u64
+    /// Its name.
+    pub fn name(&self) -> &Name
+        ensures { result.now ≡ self.now.name }
+    {
+        &self.name
+    }
+
+    /// Its balance, in units.
+    pub fn balance(&self) -> u64
         ensures value { result ≡ self.now.balance }
         ensures most { self.now.balance ≤ MOST_IN_ACCOUNT }
     {
         self.balance.number() as u64
     }
 
-    pub(crate) fn last(&self) -> u64
+    /// The order of the last draw from it, 0 before the first.
+    pub fn last(&self) -> u64
         ensures { result ≡ self.now.last }
     {
         self.last

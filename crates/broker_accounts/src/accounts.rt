@@ -201,6 +201,13 @@ impl Accounts {
         }
     }
 
+    /// The accounts, in the order in which they were opened.
+    pub fn all(&self) -> &[Account]
+        ensures { result.now ≡ self.now.accounts }
+    {
+        &self.accounts
+    }
+
     /// The sum of all balances, in units. It goes over all accounts.
     pub fn sum(&self) -> u128
         ensures { result ≡ balances self.now.accounts }

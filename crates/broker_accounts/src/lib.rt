@@ -7,4 +7,5 @@
 mod account;
 mod accounts;
 
+pub use account::Account;
 pub use accounts::Accounts;

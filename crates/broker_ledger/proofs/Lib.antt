@@ -1,4 +1,5 @@
 mod LedgerLaws
+mod StandingLaws
 pub mod LearnLaws
 mod TaskLaws
 mod FollowLaws

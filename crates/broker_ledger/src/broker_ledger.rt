@@ -5,13 +5,13 @@ ghost use Rattle.mc_records.specs.Entry.{Accept, Account, Deposit, Withdraw, Dra
 ghost use Rattle.mc_records.specs.Views.{deed_of, entry};
 ghost use Rattle.ledger_model.specs.Histories.{History};
 ghost use Rattle.ledger_model.specs.Pieces.{has_reference};
-ghost use Rattle.ledger_model.specs.Accounts.{account_in, movement};
+ghost use Rattle.ledger_model.specs.Accounts.{account_in, all_balances, movement};
 ghost use Rattle.name_places.specs.NamePlaces.{place_of};
-ghost use Rattle.broker_ledger.specs.Ledger.{Represents, HasRoom, HasRoomUnder, AccountsAllow, AccountsAnswer, PaymentFits, credit_by, credit_within, payment_under, standing_in};
+ghost use Rattle.broker_ledger.specs.Ledger.{Represents, HasRoom, HasRoomUnder, AccountsAllow, AccountsAnswer, PaymentFits, credit_by, credit_within, payment_under, standing_in, standings};
 
 use crate::order::order_of;
 use crate::payment::Payment;
-use broker_accounts::Accounts;
+use broker_accounts::{Account, Accounts};
 use mc_base::{Amount, Coin, NoMemory, Total};
 use mc_records::{Record, RecordDeed};
 use mc_requests::{Errand, errands_are_texts, read_errand};
@@ -69,6 +69,20 @@ impl AccountLedger {
             None => return None,
         };
         Some(Standing { key, balance, last })
+    }
+
+    /// The accounts, in the order in which they were opened.
+    pub fn accounts(&self) -> &[Account]
+        ensures { (h : History) → Represents self.now h → result.now ≡ standings h }
+    {
+        self.accounts.all()
+    }
+
+    /// The sum of all balances, in units. It goes over all accounts.
+    pub fn balances(&self) -> u128
+        ensures { (h : History) → Represents self.now h → result ≡ all_balances h }
+    {
+        self.accounts.sum()
     }
 
     /// What the operator put in or paid out under a reference; None exactly where the reference is new.

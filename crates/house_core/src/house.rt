@@ -6,7 +6,7 @@ ghost use Rattle.scrip_form.specs.Identities.{series_of};
 ghost use Rattle.scrip_form.specs.Issuing.{Issuing};
 ghost use Rattle.scrip_form.specs.Scrip.{scrip_body, IsVersion};
 ghost use Rattle.scrip_form.specs.Texts.{IsTarget};
-ghost use Rattle.mc_records.specs.Chains.{chain};
+ghost use Rattle.mc_records.specs.Chains.{chain, has_switch};
 ghost use Rattle.mc_records.specs.Entry.{Fits, moment_of};
 ghost use Rattle.mc_requests.specs.Requests.{asked_of};
 ghost use Rattle.mc_records.specs.Sizes.{size};
@@ -14,6 +14,7 @@ ghost use Rattle.mc_records.specs.Views.{entry};
 ghost use Rattle.ledger_model.specs.Histories.{History};
 ghost use Rattle.ledger_model.specs.Answer as model;
 ghost use Rattle.ledger_model.specs.Houses.{site_name, terms_in, upgrade_in, version};
+ghost use Rattle.ledger_model.specs.Sums.{takings};
 ghost use Rattle.scrip_certs.specs.Digests as digests;
 ghost use Rattle.ledger_model.specs.Lawful.{MayFollow};
 ghost use Rattle.house_state.specs.Learning.{Passes};
@@ -353,6 +354,27 @@ impl<D: Disk, T: Trade> House<D, T> {
         ensures { (h : History) → HouseRepresents D.disk T.trade self.now h → result ≡ length h }
     {
         self.journal.entries()
+    }
+
+    /// How many bytes its book has.
+    pub fn size(&self) -> u64
+        ensures { (h : History) → HouseRepresents D.disk T.trade self.now h → result ≡ size h }
+    {
+        self.bench.state.size()
+    }
+
+    /// What was taken in prices of accepted requests, in units.
+    pub fn takings(&self) -> u128
+        ensures { (h : History) → HouseRepresents D.disk T.trade self.now h → result ≡ takings h }
+    {
+        self.bench.state.takings()
+    }
+
+    /// Whether its book is switched: whether each later entry has the chain of all before it.
+    pub fn is_switched(&self) -> bool
+        ensures { (h : History) → HouseRepresents D.disk T.trade self.now h → result ≡ has_switch h }
+    {
+        self.bench.state.is_switched()
     }
 
     /// The chain of its entries, where it is known, as behind `switch`.

@@ -196,6 +196,13 @@ impl HouseState {
         self.size
     }
 
+    /// What was taken in prices of accepted requests, in units.
+    pub fn takings(&self) -> u128
+        ensures { result ≡ self.now.takings }
+    {
+        self.takings.number()
+    }
+
     /// Whether a Switch is among the entries.
     pub fn is_switched(&self) -> bool
         ensures { result ≡ self.now.switched }
