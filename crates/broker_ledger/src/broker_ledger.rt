@@ -11,7 +11,7 @@ ghost use Rattle.broker_ledger.specs.Ledger.{Represents, HasRoom, HasRoomUnder, 
 
 use crate::order::order_of;
 use crate::payment::Payment;
-use broker_accounts::{Account, Accounts};
+use broker_accounts::Accounts;
 use mc_base::{Amount, Coin, NoMemory, Total};
 use mc_records::{Record, RecordDeed};
 use mc_requests::{Errand, errands_are_texts, read_errand};
@@ -72,7 +72,7 @@ impl AccountLedger {
     }
 
     /// The accounts, in the order in which they were opened.
-    pub fn accounts(&self) -> &[Account]
+    pub fn accounts(&self) -> &[broker_accounts::Account]
         ensures { (h : History) → Represents self.now h → result.now ≡ standings h }
     {
         self.accounts.all()
