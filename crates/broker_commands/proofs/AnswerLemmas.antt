@@ -1,20 +1,15 @@
 -- What was answered is what is told of it.
 use Rattle.std.proofs.Common.{◌≡◌, ℕ, List, true, false, Option, Some, None, IfSome, is_some, option_map, refl, sym, ap, ap₂, subst, ◌∙◌}
 use Rattle.std.proofs.lemmas.Option.{none-some}
-use Rattle.mc_outside.specs.DiskView.{DiskView, IsDisk}
-use Rattle.mc_outside.proofs.Runs.{ran_none}
+use Rattle.mc_outside.specs.DiskView.{DiskView}
 use Rattle.mc_requests.specs.declared.limits.Limits.{Limits}
 use Rattle.mc_requests.specs.declared.refusal.Refusal.TheVariants.{NoAccount}
 use Rattle.ledger_model.specs.Histories.{History}
 use Rattle.ledger_model.specs.Accounts.{key_in, balance}
 use Rattle.broker_ledger.specs.declared.broker_ledger.Standing.{Standing}
 use Rattle.broker_ledger.specs.Ledger.{standing_in}
-use Rattle.scrip_journal.specs.Exits.{EncodesNoOutput}
-use Rattle.scrip_journal.specs.Rests.{journal_leaves}
-use Rattle.house_core.specs.HouseView.{HouseView}
 use Rattle.house_core.specs.declared.outcome.Outcome.{Outcome}
 use Rattle.house_core.specs.declared.outcome.Outcome.TheVariants as outcomes
-use Rattle.house_core.specs.House.{HouseRepresents}
 use Rattle.house_state.specs.Trade.{TradeView}
 use Rattle.house_core.specs.Tasks.{Task, Add, Stays, Refuse, Does, Performs}
 use Rattle.broker_commands.specs.Answers.{answer_in}
@@ -73,13 +68,3 @@ same_balance (Some key) f n s all e = subst (λ (o : Option Standing). IfSome o 
 
 pub balance_found : (h : History) (name : List ℕ) (s : Standing) → standing_in h name ≡ Some s → s.balance ≡ balance h name
 balance_found h name s some = same_balance (key_in h name) _ (balance h name) s (λ key. refl) some
-
--- nothing is entered, and the line is said
-pub performs_stays : {D T : Type 0} (disk : D → DiskView) (trade : T → TradeView) (Wanted : Task → Type 0) (Told : Task → History → Unit {0} → Type 0) (limits : Limits) (x : HouseView D T) (h : History)
-    → ((d : D) → IsDisk (disk d)) → HouseRepresents disk trade x h → Wanted Stays → Told Stays h tt → Performs disk trade Wanted Told limits x.journal.disk h (outcomes.Done x tt)
-performs_stays {D = D} disk trade Wanted Told limits x h is_disk st wanted told = record {
-  task = Stays;
-  asks = wanted;
-  does = (record { represents = st; disk' = refl }, told);
-  ran = ran_none (disk x.journal.disk) (EncodesNoOutput h (disk x.journal.disk).aside) (is_disk x.journal.disk) (λ c leaves. (journal_leaves disk x.journal h st.journal c leaves, refl));
-}

@@ -1,9 +1,14 @@
 -- What the operations of a broker's operator mean.
-use Rattle.std.specs.Prelude.{◌≡◌, ◌++◌, ℕ, List, [], length, Some, None, Result, Ok, Err, is_some, if◌then◌else◌, codes, decimal, ◌∷◌}
+use Rattle.std.specs.Prelude.{◌≡◌, ◌++◌, ℕ, List, [], length, Some, None, Result, Ok, Err, is_some, if◌then◌else◌, flat_map, codes, decimal, ◌∷◌}
 use Rattle.scrip_form.specs.Issuing.{Issuing}
 use Rattle.mc_requests.specs.declared.refusal.Refusal.TheVariants.{NoAccount, BadInput}
+use Rattle.mc_records.specs.Chains.{has_switch}
+use Rattle.mc_records.specs.Sizes.{size}
+use Rattle.broker_accounts.specs.Accounts.{AccountView}
+use Rattle.broker_ledger.specs.Ledger.{standings}
 use Rattle.ledger_model.specs.Histories.{History}
-use Rattle.ledger_model.specs.Accounts.{key_in, balance}
+use Rattle.ledger_model.specs.Houses.{site_name}
+use Rattle.ledger_model.specs.Accounts.{key_in, balance, account_names, all_balances}
 use Rattle.house_core.specs.Tasks.{Task, Stays, Refuse, after}
 use Rattle.broker_core.specs.Moves.{moved_issuer}
 use Rattle.broker_core.specs.Tasks.{account_task, deposit_task, withdraw_task, licence_task, stock_task, stock_lines, pieces_in, upgrade_licence_task}
@@ -16,7 +21,7 @@ use Rattle.site_words.specs.declared.broker_operation.LicenceUpgrading.{LicenceU
 use Rattle.site_words.specs.declared.broker_operation.Opening.{Opening}
 use Rattle.site_words.specs.declared.broker_operation.Movement.{Movement}
 use Rattle.site_words.specs.declared.broker_operation.Stocking.{Stocking}
-use Rattle.said_lines.specs.Lines.{chain_words, ready, upgrade_line, with_number}
+use Rattle.said_lines.specs.Lines.{chain_words, metric, ready, site_metrics, upgrade_line, with_number}
 use Rattle.operator_command.specs.Operations.{OperationView, chain_operation}
 
 -- ---- the lines
@@ -114,6 +119,36 @@ upgrade_operation u = record {
   refusals = 33 ∷ 71 ∷ 72 ∷ 73 ∷ [];
 }
 
+-- the accounts, in the order in which they were opened: what each holds, and the order of its last draw
+abbrev pub listed_account : AccountView → List ℕ
+listed_account a = codes "account " ++ a.name ++ codes " " ++ decimal a.balance ++ codes " " ++ decimal a.last ++ codes "\n"
+
+abbrev pub listed_accounts : List AccountView → List ℕ
+listed_accounts accounts = flat_map listed_account accounts
+
+abbrev pub list_operation : OperationView
+list_operation = record {
+  input = None;
+  asks = λ input h t task. task ≡ Stays;
+  says = λ input h task line. line ≡ listed_accounts (standings (after task h));
+  refusals = [];
+}
+
+-- how the site stands: its book, how many accounts there are, and what they hold together
+abbrev pub desk_metrics : History → List ℕ
+desk_metrics h =
+    site_metrics (site_name h) (length h) (size h) (has_switch h)
+    ++ metric (site_name h) (codes "millicent_accounts") (codes "gauge") (codes "Accounts.") (length (account_names h))
+    ++ metric (site_name h) (codes "millicent_balances") (codes "gauge") (codes "Units in all accounts.") (all_balances h)
+
+abbrev pub status_operation : OperationView
+status_operation = record {
+  input = None;
+  asks = λ input h t task. task ≡ Stays;
+  says = λ input h task line. line ≡ desk_metrics (after task h);
+  refusals = [];
+}
+
 -- ---- all of them
 
 -- what an operation of a broker's operator means
@@ -126,6 +161,8 @@ operation_view (operations.Licence l) = licence_operation
 operation_view (operations.Stock s) = stock_operation s
 operation_view (operations.Upgrade u) = upgrade_operation u
 operation_view (operations.Chain c) = chain_operation
+operation_view (operations.List l) = list_operation
+operation_view (operations.Status l) = status_operation
 
 -- its line as far as it is known before the book is touched
 abbrev pub begins : BrokerOperation → List ℕ → List ℕ → Type 0
@@ -137,3 +174,5 @@ begins (operations.Licence l) site line = line ≡ ready []
 begins (operations.Stock s) site line = line ≡ ready (stock_words s.vendor)
 begins (operations.Upgrade u) site line = line ≡ ready []
 begins (operations.Chain c) site line = line ≡ ready (chain_words site)
+begins (operations.List l) site line = line ≡ []
+begins (operations.Status l) site line = line ≡ []

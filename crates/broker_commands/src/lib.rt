@@ -6,8 +6,10 @@ mod answer;
 mod balance;
 mod licence;
 mod lines;
+mod list;
 mod operation;
 mod payment;
+mod status;
 mod stock;
 mod upgrade;
 

@@ -14,7 +14,9 @@ use crate::account::open;
 use crate::balance::tell_balance;
 use crate::licence::take_licence;
 use crate::lines;
+use crate::list::list_accounts;
 use crate::payment::{pay_in, pay_out};
+use crate::status::tell_status;
 use crate::stock::take_stock;
 use crate::upgrade::move_issuer;
 use broker_core::Desk;
@@ -67,7 +69,9 @@ impl<'a> OperatorCommand<Desk> for DeskOperation<'a> {
             | BrokerOperation::Withdraw(_)
             | BrokerOperation::Balance(_)
             | BrokerOperation::Upgrade(_)
-            | BrokerOperation::Chain(_) => None,
+            | BrokerOperation::Chain(_)
+            | BrokerOperation::List(_)
+            | BrokerOperation::Status(_) => None,
         }
     }
 
@@ -82,6 +86,7 @@ impl<'a> OperatorCommand<Desk> for DeskOperation<'a> {
             }
             BrokerOperation::Licence(_) | BrokerOperation::Upgrade(_) => ready(Vec::new(alloc)),
             BrokerOperation::Chain(_) => ready(begin_chain(alloc, site)?),
+            BrokerOperation::List(_) | BrokerOperation::Status(_) => Ok(Vec::new(alloc)),
             BrokerOperation::Stock(stocking) => {
                 ready(lines::stock_words(alloc, stocking.vendor())?)
             }
@@ -111,6 +116,8 @@ impl<'a> OperatorCommand<Desk> for DeskOperation<'a> {
             BrokerOperation::Stock(stocking) => take_stock(stocking, house, input, line),
             BrokerOperation::Upgrade(upgrading) => move_issuer(upgrading, house, line),
             BrokerOperation::Chain(_) => switch_book(house, line),
+            BrokerOperation::List(_) => list_accounts(house, line),
+            BrokerOperation::Status(_) => tell_status(house, line),
         }
     }
 }

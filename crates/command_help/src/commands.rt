@@ -86,6 +86,18 @@ pub fn text_of(name: CommandName) -> CommandText {
              Given again it prints that line of the book as it then is.\n",
             "millicent vendor chain news.book\n",
         ),
+        CommandName::VendorList => text(
+            "lists what is on sale",
+            "Prints `goods TARGET PRICE KIND LENGTH` of each target, in the order in which they\n\
+             were first put on sale, and enters nothing.\n",
+            "millicent vendor list news.book\n",
+        ),
+        CommandName::VendorStatus => text(
+            "prints how the site is, for Prometheus",
+            "Prints entries, bytes of the book, takings and goods in Prometheus' text form, and\n\
+             enters nothing.\n",
+            "millicent vendor status news.book\n",
+        ),
         CommandName::VendorStatement => text(
             "states what it took of an epoch of a licence",
             "The epoch must have ended. Prints the line that the broker enters by `broker settle`:\n\
@@ -149,6 +161,18 @@ pub fn text_of(name: CommandName) -> CommandText {
             "Prints `chain NAME COUNT DIGEST`: how many entries there are, and a digest of all.\n\
              Given again it prints that line of the book as it then is.\n",
             "millicent broker chain bank.book\n",
+        ),
+        CommandName::BrokerList => text(
+            "lists the accounts",
+            "Prints `account ACCOUNT BALANCE ORDER` of each, ORDER being that of its last draw,\n\
+             in the order in which they were opened, and enters nothing.\n",
+            "millicent broker list bank.book\n",
+        ),
+        CommandName::BrokerStatus => text(
+            "prints how the site is, for Prometheus",
+            "Prints entries, bytes of the book and accounts in Prometheus' text form, and enters\n\
+             nothing.\n",
+            "millicent broker status bank.book\n",
         ),
         CommandName::BrokerSettle => text(
             "enters that a vendor's statement is paid",

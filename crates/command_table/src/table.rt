@@ -35,6 +35,10 @@ pub enum CommandName {
     VendorUpgrade,
     /// Has the book end each entry with a digest of all before.
     VendorChain,
+    /// Lists what is on sale.
+    VendorList,
+    /// Tells how the vendor of a book stands, for Prometheus.
+    VendorStatus,
     /// States what was redeemed of a series that ended.
     VendorStatement,
     /// Founds a broker in a book.
@@ -57,6 +61,10 @@ pub enum CommandName {
     BrokerUpgrade,
     /// As `vendor chain`.
     BrokerChain,
+    /// Lists the accounts.
+    BrokerList,
+    /// As `vendor status`.
+    BrokerStatus,
     /// Pays a vendor's statement.
     BrokerSettle,
     /// Founds a wallet in a book.
@@ -90,7 +98,7 @@ pub enum CommandName {
 }
 
 /// All of them.
-pub static COMMANDS: [CommandName; 36] = [
+pub static COMMANDS: [CommandName; 40] = [
     CommandName::VendorInit,
     CommandName::VendorGoods,
     CommandName::VendorPrice,
@@ -101,6 +109,8 @@ pub static COMMANDS: [CommandName; 36] = [
     CommandName::VendorPlay,
     CommandName::VendorUpgrade,
     CommandName::VendorChain,
+    CommandName::VendorList,
+    CommandName::VendorStatus,
     CommandName::VendorStatement,
     CommandName::BrokerInit,
     CommandName::BrokerAccount,
@@ -112,6 +122,8 @@ pub static COMMANDS: [CommandName; 36] = [
     CommandName::BrokerServe,
     CommandName::BrokerUpgrade,
     CommandName::BrokerChain,
+    CommandName::BrokerList,
+    CommandName::BrokerStatus,
     CommandName::BrokerSettle,
     CommandName::WalletInit,
     CommandName::WalletTake,
@@ -202,6 +214,8 @@ impl CommandName {
             CommandName::VendorPlay => row("vendor", "play", &[Heads]),
             CommandName::VendorUpgrade => row("vendor", "upgrade", &[Book, AnyIssuer, Epoch]),
             CommandName::VendorChain => row("vendor", "chain", &[Book]),
+            CommandName::VendorList => row("vendor", "list", &[Book]),
+            CommandName::VendorStatus => row("vendor", "status", &[Book]),
             CommandName::VendorStatement => row("vendor", "statement", &[Book, Issuer, Epoch]),
             CommandName::BrokerInit => row(
                 "broker",
@@ -225,6 +239,8 @@ impl CommandName {
             CommandName::BrokerServe => row("broker", "serve", &[Book, Listen, Links, Door]),
             CommandName::BrokerUpgrade => row("broker", "upgrade", &[Book, Vendor, Epoch]),
             CommandName::BrokerChain => row("broker", "chain", &[Book]),
+            CommandName::BrokerList => row("broker", "list", &[Book]),
+            CommandName::BrokerStatus => row("broker", "status", &[Book]),
             CommandName::BrokerSettle => row("broker", "settle", &[Book]),
             CommandName::WalletInit => row("wallet", "init", &[Book, Name]),
             CommandName::WalletTake => row("wallet", "take", &[Book]),

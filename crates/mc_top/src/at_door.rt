@@ -21,7 +21,7 @@ use std::alloc::Global;
 use vendor_commands::VendorOperation;
 
 /// The most bytes of an answer that are read.
-pub const MOST_ANSWER: usize = 1 << 20;
+pub const MOST_ANSWER: usize = 1 << 24;
 
 /// The program for the words of an operator's command, those after its name, where the site of the book is served with a door,
 /// which the third word names: tells the command there, over the next link of `door`, and says what the site answers. The

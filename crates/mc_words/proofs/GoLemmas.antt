@@ -19,5 +19,5 @@ unfolding named_among
 stands [] role name c d e = absurd (cc e)
 stands (x ∷ xs) role name c d e = stands_next x c d xs (named_among xs role name) (is_called role name (form_of x)) e (stands xs role name c d)
 
-pub stands_at : (name : CommandName) → (k : ℕ) × (k < 36) × (get_or COMMANDS k name ≡ name)
+pub stands_at : (name : CommandName) → (k : ℕ) × (k < 40) × (get_or COMMANDS k name ≡ name)
 stands_at name = stands COMMANDS (form_of name).role (form_of name).name name name (named_first name)

@@ -5,9 +5,9 @@ ghost use Rattle.mc_words.specs.Commands.{AreOfNoRow, AreWords, GivesCommand};
 use command_table::{CommandName, named, read_command};
 use command_words::Found;
 use site_words::{
-    BrokerFounder, BrokerOperation, Inquiry, LicenceUpgrading, Licensing, Listing, Minting,
-    Movement, Opening, Operation, Playing, Pricing, Server, Settling, Shop, Stating, Stocking,
-    Switching, Taking, Upgrading, VendorFounder,
+    BrokerFounder, BrokerOperation, Inquiry, LicenceUpgrading, Licensing, Listing, Looking,
+    Minting, Movement, Opening, Operation, Playing, Pricing, Server, Settling, Shop, Stating,
+    Stocking, Switching, Taking, Upgrading, VendorFounder,
 };
 use std::alloc::{AllocError, Global};
 use wallet_words::{
@@ -126,6 +126,14 @@ fn command_from<'a>(name: CommandName, found: &Found<'a>) -> Option<Command<'a>>
             let switching = Switching::read(found)?;
             Some(Command::Operate(Operation::Chain(switching)))
         }
+        CommandName::VendorList => {
+            let listed = Looking::read(found)?;
+            Some(Command::Operate(Operation::List(listed)))
+        }
+        CommandName::VendorStatus => {
+            let watched = Looking::read(found)?;
+            Some(Command::Operate(Operation::Status(watched)))
+        }
         CommandName::VendorStatement => {
             let stating = Stating::read(found)?;
             Some(Command::State(stating))
@@ -177,6 +185,14 @@ fn command_from<'a>(name: CommandName, found: &Found<'a>) -> Option<Command<'a>>
         CommandName::BrokerChain => {
             let chained = Switching::read(found)?;
             Some(Command::BrokerOperate(BrokerOperation::Chain(chained)))
+        }
+        CommandName::BrokerList => {
+            let accounts = Looking::read(found)?;
+            Some(Command::BrokerOperate(BrokerOperation::List(accounts)))
+        }
+        CommandName::BrokerStatus => {
+            let state = Looking::read(found)?;
+            Some(Command::BrokerOperate(BrokerOperation::Status(state)))
         }
         CommandName::BrokerSettle => {
             let settling = Settling::read(found)?;

@@ -1,5 +1,7 @@
 -- What a call of the trade's performed, as an operation of the operator.
-use Rattle.std.proofs.Common.{◌≡◌, ℕ, List, [], ◌∷◌, ◌++◌, refl, sym, subst}
+use Rattle.std.proofs.Common.{◌≡◌, ℕ, List, [], ◌∷◌, ◌++◌, Result, Ok, Err, refl, sym, subst}
+use Rattle.std.specs.Prelude.{OnOk}
+use Rattle.mc_base.specs.declared.no_memory.NoMemory.{NoMemory}
 use Rattle.mc_outside.specs.DiskView.{DiskView, IsDisk, Ran}
 use Rattle.mc_outside.proofs.Runs.{ran_none, ran_weaker}
 use Rattle.mc_requests.specs.declared.limits.Limits.{Limits}
@@ -14,7 +16,7 @@ use Rattle.house_core.specs.House as houses
 use Rattle.house_core.specs.House.{HouseRepresents, HandsBack, IfRefused, outcome_disk}
 use Rattle.house_state.specs.Trade.{TradeView}
 use Rattle.house_core.specs.Tasks.{Task, Add, Stays, Refuse, after, IsDoable, Does, LeavesBy, Performs}
-use Rattle.operator_command.specs.Operations.{without_answer, IfDone}
+use Rattle.operator_command.specs.Operations.{without_answer, looked, IfDone}
 
 disk_as : {D T A : Type 0} (out : Outcome D T A) → outcome_disk (without_answer out) ≡ outcome_disk out
 disk_as (outcomes.Done x a) = refl
@@ -122,3 +124,34 @@ known_shown (outcomes.Done x a) P is = is
 known_shown (outcomes.Refused x f) P is = tt
 known_shown (outcomes.NoMemory x) P is = tt
 known_shown (outcomes.Halted d) P is = tt
+
+-- nothing is entered, and the line is said
+pub performs_stays : {D T : Type 0} (disk : D → DiskView) (trade : T → TradeView) (Wanted : Task → Type 0) (Told : Task → History → Unit {0} → Type 0) (limits : Limits) (x : HouseView D T) (h : History)
+    → ((d : D) → IsDisk (disk d)) → HouseRepresents disk trade x h → Wanted Stays → Told Stays h tt → Performs disk trade Wanted Told limits x.journal.disk h (outcomes.Done x tt)
+performs_stays {D = D} disk trade Wanted Told limits x h is_disk st wanted told = record {
+  task = Stays;
+  asks = wanted;
+  does = (record { represents = st; disk' = refl }, told);
+  ran = ran_none (disk x.journal.disk) (EncodesNoOutput h (disk x.journal.disk).aside) (is_disk x.journal.disk) (λ c leaves. (journal_leaves disk x.journal h st.journal c leaves, refl));
+}
+
+-- and where memory was refused, nothing is entered either
+pub performs_looked : {D T : Type 0} (disk : D → DiskView) (trade : T → TradeView) (Wanted : Task → Type 0) (Told : Task → History → Unit {0} → Type 0) (limits : Limits) (x : HouseView D T) (h : History) (made : Result (Unit {0}) NoMemory)
+    → ((d : D) → IsDisk (disk d)) → HouseRepresents disk trade x h → Wanted Stays → OnOk made (Told Stays h tt) → Performs disk trade Wanted Told limits x.journal.disk h (looked x made)
+performs_looked disk trade Wanted Told limits x h (Ok a) is_disk st wanted told = performs_stays disk trade Wanted Told limits x h is_disk st wanted told
+performs_looked {D = D} disk trade Wanted Told limits x h (Err f) is_disk st wanted told = record {
+  task = Stays;
+  asks = wanted;
+  does = record { represents = st; disk' = refl };
+  ran = ran_none (disk x.journal.disk) (EncodesNoOutput h (disk x.journal.disk).aside) (is_disk x.journal.disk) (λ c leaves. (journal_leaves disk x.journal h st.journal c leaves, refl));
+}
+
+-- what holds where it was made, in other words
+pub made_as : {A E : Type 0} (made : Result A E) (P Q : Type 0) → (P → Q) → OnOk made P → OnOk made Q
+made_as (Ok a) P Q more is = more is
+made_as (Err f) P Q more is = tt
+
+-- it is never refused
+pub looked_unrefused : {D T : Type 0} (P : Refusal → Type 0) (x : HouseView D T) (made : Result (Unit {0}) NoMemory) → IfRefused P (looked x made)
+looked_unrefused P x (Ok a) = tt
+looked_unrefused P x (Err f) = tt

@@ -1,5 +1,6 @@
 -- What the operations of a site's operator mean.
-use Rattle.std.specs.Prelude.{◌≡◌, ℕ, List, [], ◌∷◌, length, Option, None}
+use Rattle.std.specs.Prelude.{◌≡◌, ℕ, List, [], ◌∷◌, length, Option, None, Result, Ok, Err}
+use Rattle.mc_base.specs.declared.no_memory.NoMemory.{NoMemory}
 use Rattle.mc_requests.specs.declared.limits.Limits.{Limits}
 use Rattle.mc_requests.specs.declared.limits.TheConstants.Limits.{MOST_JOURNAL, MOST_SERIES}
 use Rattle.mc_records.specs.Chains.{chain}
@@ -39,6 +40,11 @@ without_answer (outcomes.Done x a) = outcomes.Done x tt
 without_answer (outcomes.Refused x f) = outcomes.Refused x f
 without_answer (outcomes.NoMemory x) = outcomes.NoMemory x
 without_answer (outcomes.Halted d) = outcomes.Halted d
+
+-- what comes of a command that looks at a house, whose lines were made, or memory was refused
+abbrev pub looked : {D T : Type 0} → HouseView D T → Result (Unit {0}) NoMemory → Outcome D T (Unit {0})
+looked x (Ok a) = outcomes.Done x tt
+looked x (Err f) = outcomes.NoMemory x
 
 -- what holds of the house that goes on, where the task was done
 abbrev pub IfDone : {D T A : Type 0} → Outcome D T A → (HouseView D T → Type 0) → Type 0

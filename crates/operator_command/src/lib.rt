@@ -4,6 +4,8 @@
 
 mod chain;
 mod command;
+mod looking;
 
 pub use chain::switch_book;
 pub use command::{OperatorCommand, without_answer};
+pub use looking::{append_book, looked};

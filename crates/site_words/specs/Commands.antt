@@ -3,7 +3,7 @@ use Rattle.std.specs.Prelude.{ℕ, List}
 use Rattle.command_table.specs.declared.table.CommandName.TheVariants as names
 use Rattle.command_table.specs.Table.{AreOf}
 use Rattle.site_words.specs.declared.operation.Operation.{Operation}
-use Rattle.site_words.specs.declared.operation.Operation.TheVariants.{Goods, Price, Licence, Mint, Upgrade, Chain}
+use Rattle.site_words.specs.declared.operation.Operation.TheVariants.{Goods, Price, Licence, Mint, Upgrade, Chain, List as Listed, Status}
 use Rattle.site_words.specs.declared.broker_operation.BrokerOperation.{BrokerOperation}
 use Rattle.site_words.specs.declared.broker_operation.BrokerOperation.TheVariants as brokers
 use Rattle.site_words.specs.Words.{Shop, shop_values}
@@ -24,6 +24,8 @@ book_of (Licence licensing) = licensing.book
 book_of (Mint minting) = minting.book
 book_of (Upgrade upgrading) = upgrading.book
 book_of (Chain switching) = switching.book
+book_of (Listed looking) = looking.book
+book_of (Status looking) = looking.book
 
 -- and one of a broker's
 abbrev pub broker_book_of : BrokerOperation → List ℕ
@@ -35,3 +37,5 @@ broker_book_of (brokers.Licence taking) = taking.book
 broker_book_of (brokers.Stock stocking) = stocking.book
 broker_book_of (brokers.Upgrade upgrading) = upgrading.book
 broker_book_of (brokers.Chain switching) = switching.book
+broker_book_of (brokers.List looking) = looking.book
+broker_book_of (brokers.Status looking) = looking.book

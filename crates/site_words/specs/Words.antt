@@ -21,6 +21,7 @@ use Rattle.site_words.specs.declared.broker_operation.Opening.{Opening}
 use Rattle.site_words.specs.declared.broker_operation.Movement.{Movement}
 use Rattle.site_words.specs.declared.broker_operation.Stocking.{Stocking}
 use Rattle.site_words.specs.declared.broker_operation.Taking.{Taking}
+use Rattle.site_words.specs.declared.looking.Looking.{Looking}
 use Rattle.site_words.specs.declared.serving.Playing.{Playing}
 use Rattle.site_words.specs.declared.serving.Server.{Server}
 use Rattle.site_words.specs.declared.settlement.Settling.{Settling}
@@ -96,6 +97,11 @@ settling_values s = (s.book, tt)
 unfoldable pub switching_values : Switching → ValuesOf (form_of names.VendorChain).parameters
 unfolding form_of
 switching_values s = (s.book, tt)
+
+-- of `vendor status`, `broker list` and `broker status` likewise
+unfoldable pub looking_values : Looking → ValuesOf (form_of names.VendorList).parameters
+unfolding form_of
+looking_values l = (l.book, tt)
 
 -- of `broker serve` likewise
 unfoldable pub server_values : Server → ValuesOf (form_of names.VendorServe).parameters

@@ -7,6 +7,7 @@ ghost use Rattle.command_table.specs.declared.table.CommandName.TheVariants.{Bro
 ghost use Rattle.site_words.specs.Words.{inquiry_values, licence_upgrading_values, opening_values, movement_values, stocking_values, taking_values};
 ghost use Rattle.site_words.specs.Commands.{broker_book_of};
 
+use crate::looking::Looking;
 use crate::switching::Switching;
 use command_table::{
     Epoch, MOST_EPOCH, Parameter, Place, Sum, name_in, number_in, place_in, secret_in,
@@ -34,6 +35,10 @@ pub enum BrokerOperation<'a> {
     Upgrade(LicenceUpgrading<'a>),
     /// Switches the chain of the book on, and tells it.
     Chain(Switching<'a>),
+    /// Lists the accounts.
+    List(Looking<'a>),
+    /// Tells how the site stands.
+    Status(Looking<'a>),
 }
 
 impl<'a> BrokerOperation<'a> {
@@ -51,6 +56,9 @@ impl<'a> BrokerOperation<'a> {
             BrokerOperation::Stock(stocking) => stocking.book.bytes(),
             BrokerOperation::Upgrade(upgrading) => upgrading.book.bytes(),
             BrokerOperation::Chain(switching) => switching.book.bytes(),
+            BrokerOperation::List(looking) | BrokerOperation::Status(looking) => looking
+                .book
+                .bytes(),
         }
     }
 }

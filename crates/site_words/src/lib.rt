@@ -5,6 +5,7 @@
 
 mod broker_operation;
 mod founder;
+mod looking;
 mod operation;
 mod secrets;
 mod serving;
@@ -16,6 +17,7 @@ pub use broker_operation::{
     BrokerOperation, Inquiry, LicenceUpgrading, Movement, Opening, Stocking, Taking,
 };
 pub use founder::{BrokerFounder, Founder, KEEP, VendorFounder};
+pub use looking::Looking;
 pub use operation::{Licensing, Listing, Minting, Operation, Pricing, Upgrading};
 pub use secrets::SecretList;
 pub use serving::{Playing, Server};

@@ -8,6 +8,7 @@ ghost use Rattle.site_words.specs.Words.{licensed_terms, licensing_values, listi
 ghost use Rattle.site_words.specs.Commands.{book_of};
 
 use crate::founder::terms_of;
+use crate::looking::Looking;
 use crate::secrets::{SecretList, secret_list_in};
 use crate::switching::Switching;
 use command_table::{
@@ -33,6 +34,10 @@ pub enum Operation<'a> {
     Upgrade(Upgrading<'a>),
     /// Switches the chain of the book on, and tells it.
     Chain(Switching<'a>),
+    /// Lists what is on sale.
+    List(Looking<'a>),
+    /// Tells how the site stands.
+    Status(Looking<'a>),
 }
 
 impl<'a> Operation<'a> {
@@ -47,6 +52,7 @@ impl<'a> Operation<'a> {
             Operation::Mint(minting) => minting.book.bytes(),
             Operation::Upgrade(upgrading) => upgrading.book.bytes(),
             Operation::Chain(switching) => switching.book.bytes(),
+            Operation::List(looking) | Operation::Status(looking) => looking.book.bytes(),
         }
     }
 }

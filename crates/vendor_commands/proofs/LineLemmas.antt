@@ -1,7 +1,7 @@
 -- The words of secrets, one after another.
-use Rattle.std.proofs.Common.{◌≡◌, ℕ, suc, ◌+◌, ◌<◌, List, [], ◌∷◌, ◌++◌, length, take, get_or, refl, sym, ap, ◌∙◌, append_assoc, arith}
+use Rattle.std.proofs.Common.{◌≡◌, ℕ, suc, ◌+◌, ◌<◌, List, [], ◌∷◌, ◌++◌, length, map, flat_map, take, drop, get_or, refl, sym, ap, ◌∙◌, append_assoc, arith}
 use Rattle.std.proofs.lemmas.List.{length-take-le}
-use Rattle.std.proofs.Math.Seq.{take-suc}
+use Rattle.std.proofs.Math.Seq.{take-suc, drop-cons}
 use Rattle.hex.specs.Hex.{encode_lower}
 use Rattle.command_table.specs.Ranges.{joined}
 
@@ -35,3 +35,14 @@ secrets_more front line more hex secrets i lt so_far is then =
     then ∙ ap (λ (l : List ℕ). l ++ (comma (take i secrets) ++ hex)) so_far ∙ append_assoc front (joined (take i secrets)) (comma (take i secrets) ++ hex)
     ∙ ap (λ (l : List ℕ). front ++ (joined (take i secrets) ++ (comma (take i secrets) ++ l))) is
     ∙ ap (λ (l : List ℕ). front ++ l) (sym (ap joined next ∙ joined-snoc (take i secrets) (get_or secrets i [])))
+
+-- lines that texts have one after another, of the texts from one on
+pub lines_more : {X : Type 0} (f : List ℕ → List ℕ) (g : X → List ℕ) (xs : List X) (i : ℕ) (x : X) (old lines new : List ℕ) → i < length xs → x ≡ get_or xs i x → new ≡ lines ++ f (g x)
+    → lines ++ flat_map f (map g (drop i xs)) ≡ old → new ++ flat_map f (map g (drop (i + 1) xs)) ≡ old
+lines_more {X = X} f g xs i x old lines new lt is more stood =
+    let next : suc i ≡ i + 1 = omega arith in
+    let at : drop i xs ≡ x ∷ drop (i + 1) xs = drop-cons xs i x lt ∙ ap (λ (y : X). y ∷ drop (suc i) xs) (sym is) ∙ ap (λ (n : ℕ). x ∷ drop n xs) next in
+    ap (λ (l : List ℕ). l ++ flat_map f (map g (drop (i + 1) xs))) more
+    ∙ append_assoc lines (f (g x)) (flat_map f (map g (drop (i + 1) xs)))
+    ∙ ap (λ (ys : List X). lines ++ flat_map f (map g ys)) (sym at)
+    ∙ stood

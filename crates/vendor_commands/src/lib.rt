@@ -6,12 +6,14 @@ mod goods;
 mod law;
 mod licence;
 mod lines;
+mod list;
 mod mint;
 mod once;
 mod operation;
 mod play;
 mod price;
 mod shop;
+mod status;
 mod upgrade;
 
 pub use law::a_play_has_one_text;

@@ -7,8 +7,8 @@ ghost use Rattle.vendor_commands.specs.Operations.{goods_line};
 ghost use Rattle.vendor_commands.specs.Play.{play_line, play_lines};
 
 use house_core::Tally;
-use itoa::Buffer;
 use mc_base::{Amount, NoMemory};
+use said_lines::append_number;
 use scrip_certs::hex_of;
 use scrip_form::{Name, Target, Terms};
 use std::alloc::Global;
@@ -20,7 +20,7 @@ pub(crate) fn goods_line(alloc: Global, target: &Target, price: Amount) -> Resul
     let mut line = Vec::new(alloc);
     line.extend_from_slice(b"goods ")?;
     line.extend_from_slice(target.bytes())?;
-    append_number(&mut line, u128::from(price.get()))?;
+    append_number(&mut line, b" ", u128::from(price.get()))?;
     line.extend_from_slice(b"\n")?;
     Ok(line)
 }
@@ -32,9 +32,9 @@ pub(crate) fn licence_line(alloc: Global, vendor: &Name, terms: &Terms) -> Resul
     let mut line = Vec::new(alloc);
     line.extend_from_slice(b"licence ")?;
     line.extend_from_slice(vendor.bytes())?;
-    append_number(&mut line, u128::from(terms.issuer()))?;
-    append_number(&mut line, u128::from(terms.period()))?;
-    append_number(&mut line, u128::from(terms.life()))?;
+    append_number(&mut line, b" ", u128::from(terms.issuer()))?;
+    append_number(&mut line, b" ", u128::from(terms.period()))?;
+    append_number(&mut line, b" ", u128::from(terms.life()))?;
     append_secrets(&mut line, terms.scrip())?;
     append_secrets(&mut line, terms.customer())?;
     line.extend_from_slice(b"\n")?;
@@ -68,22 +68,12 @@ fn append_line(lines: &mut Vec<u8>, words: &[u8], number: u128) -> Result<(), No
     ensures { OnOk result (lines.new.items ≡ lines.old.items ++ play_line words.now number) }
 {
     lines.extend_from_slice(words)?;
-    append_number(lines, number)?;
+    append_number(lines, b" ", number)?;
     lines.extend_from_slice(b"\n")?;
     Ok(())
 }
 
-/// Appends a space and a number. After an `Err` the line may have a part of it.
-fn append_number(line: &mut Vec<u8>, number: u128) -> Result<(), NoMemory>
-    ensures { OnOk result (line.new.items ≡ line.old.items ++ codes " " ++ decimal number) }
-{
-    let mut digits = Buffer::new();
-    line.extend_from_slice(b" ")?;
-    line.extend_from_slice(digits.format(number).as_bytes())?;
-    Ok(())
-}
-
-/// Appends a space and some secrets, with a comma between each two, likewise.
+/// Appends a space and some secrets, with a comma between each two. After an `Err` the line may have a part of them.
 fn append_secrets(line: &mut Vec<u8>, secrets: &[[u8; 16]]) -> Result<(), NoMemory>
     ensures { OnOk result (line.new.items ≡ line.old.items ++ codes " " ++ joined secrets.now) }
 {

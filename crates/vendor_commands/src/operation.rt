@@ -13,8 +13,10 @@ ghost use Rattle.vendor_commands.specs.Operations.{operation_view, begins};
 use crate::goods::list_goods;
 use crate::licence::take_issuer;
 use crate::lines;
+use crate::list::list_on_sale;
 use crate::mint::mint_pieces;
 use crate::price::price_goods;
+use crate::status::tell_status;
 use crate::upgrade::move_issuer;
 use house_core::{House, Outcome};
 use mc_base::NoMemory;
@@ -63,7 +65,9 @@ impl<'a> OperatorCommand<Shelf> for VendorOperation<'a> {
             | Operation::Licence(_)
             | Operation::Mint(_)
             | Operation::Upgrade(_)
-            | Operation::Chain(_) => None,
+            | Operation::Chain(_)
+            | Operation::List(_)
+            | Operation::Status(_) => None,
         }
     }
 
@@ -81,6 +85,7 @@ impl<'a> OperatorCommand<Shelf> for VendorOperation<'a> {
                 upgrade_line(alloc, site, upgrading.issuer(), upgrading.from())
             }
             Operation::Chain(_) => ready(begin_chain(alloc, site)?),
+            Operation::List(_) | Operation::Status(_) => Ok(Vec::new(alloc)),
         }
     }
 
@@ -105,6 +110,8 @@ impl<'a> OperatorCommand<Shelf> for VendorOperation<'a> {
             Operation::Mint(minting) => mint_pieces(minting, house, line),
             Operation::Upgrade(upgrading) => move_issuer(upgrading, house),
             Operation::Chain(_) => switch_book(house, line),
+            Operation::List(_) => list_on_sale(house, line),
+            Operation::Status(_) => tell_status(house, line),
         }
     }
 }

@@ -1,5 +1,6 @@
 pub mod Editions
 pub mod Catalogue
+pub mod Targets
 pub mod Shelf
 pub mod Lines
 pub mod Tasks

@@ -3,7 +3,9 @@ ghost use Rattle.mc_records.specs.Entry.{Goods};
 ghost use Rattle.house_state.specs.Views.{contents_of};
 ghost use Rattle.house_state.specs.Replying.{AreContents};
 ghost use Rattle.vendor_core.specs.Editions.{goods_entry, sold_by, IsInRange};
+ghost use Rattle.vendor_core.specs.Shelf.{on_sale_by};
 
+use crate::shelf::OnSale;
 use house_state::Body;
 use mc_base::NoMemory;
 use std::alloc::Global;
@@ -74,6 +76,17 @@ impl Edition {
         ensures { result ≡ length self.now.contents.items }
     {
         self.article.contents.len() as u64
+    }
+
+    /// What a target that sells it sells.
+    pub(crate) fn on_sale(&self) -> OnSale
+        ensures { result ≡ on_sale_by self.now }
+    {
+        OnSale {
+            price: self.article.price,
+            kind: self.article.kind,
+            length: self.size(),
+        }
     }
 
     /// What a reply that sold it brings.

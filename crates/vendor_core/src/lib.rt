@@ -8,6 +8,7 @@ mod lines;
 mod minted;
 mod operator;
 mod shelf;
+mod targets;
 
 pub use operator::{add_terms, mint, set_goods, set_price, upgrade};
-pub use shelf::Shelf;
+pub use shelf::{OnSale, Shelf};

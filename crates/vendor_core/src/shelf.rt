@@ -1,4 +1,4 @@
-ghost use Rattle.std.specs.Prelude.{◌≡◌, ℕ, ◌↔◌, ◌≤◌, [], ◌∷◌, ◌++◌, Some, option_map, IsSome, IfSome, IsFalse, IsOk, OnOk, OnErr, length};
+ghost use Rattle.std.specs.Prelude.{◌≡◌, ℕ, ◌↔◌, ◌≤◌, [], ◌∷◌, ◌++◌, Some, map, option_map, IsSome, IfSome, IsFalse, IsOk, OnOk, OnErr, length};
 ghost use Rattle.mc_records.specs.declared.ranges.TheConstants.{MOST_CONTENTS};
 ghost use Rattle.mc_records.specs.Entry.{Goods, Mint};
 ghost use Rattle.ledger_model.specs.declared.numbers.TheConstants.{MOST_IN_FORCE};
@@ -10,6 +10,7 @@ ghost use Rattle.house_state.specs.Replying.{AreContents};
 use crate::catalogue::Catalogue;
 use crate::edition::Article;
 use crate::minted::Minting;
+use crate::targets::Targets;
 use house_state::{Body, DrawAsk, Offer, SiteKind, Trade, Unlawful, body_of_deed};
 use kept_replies::Deed;
 use ledger_model::MOST_IN_FORCE;
@@ -19,12 +20,22 @@ use mc_requests::{Limits, Refusal};
 use name_places::NamePlaces;
 use std::alloc::Global;
 
+/// What a target sells: its price, the kind of its contents, below 3, and how many bytes they have.
+#[derive(Clone, Copy, Drop)]
+pub struct OnSale {
+    pub price: u64,
+    pub kind: u8,
+    pub length: u64,
+}
+
 /// The trade of a vendor: its goods by their targets, the issuers whose scrip it takes, and what it minted
 /// by the references. Goods and mints are found in a few looks, however many there are; there are at most 255
 /// issuers. It owns the contents of its goods. Those that were replaced stay until `forget` lets them go.
 #[derive(Drop)]
 pub struct Shelf {
     catalogue: Catalogue,
+    /// The targets of the goods.
+    targets: Targets,
     issuers: Vec<u8>,
     mints: Vec<Minting>,
     /// Where among the mints that of each reference stands.
@@ -37,9 +48,10 @@ pub struct Shelf {
 }
 
 impl Shelf {
+    ghost use Rattle.ledger_model.specs.Goods.{goods_targets};
     ghost use Rattle.vendor_core.specs.Editions.{goods_entry, IsInRange};
     ghost use Rattle.vendor_core.specs.Catalogue.{HasRoomAt};
-    ghost use Rattle.vendor_core.specs.Shelf.{ShelfRepresents, HasGoods, HasRoomForMint, IsMinting, AreGoods};
+    ghost use Rattle.vendor_core.specs.Shelf.{ShelfRepresents, on_sale_in, HasGoods, HasRoomForMint, IsMinting, AreGoods};
 
     /// The shelf of an empty history. It takes no memory.
     pub fn new(alloc: Global) -> Shelf
@@ -47,6 +59,7 @@ impl Shelf {
     {
         Shelf {
             catalogue: Catalogue::new(alloc),
+            targets: Targets::new(alloc),
             issuers: Vec::new(alloc),
             mints: Vec::new(alloc),
             references: NamePlaces::new(alloc),
@@ -79,6 +92,31 @@ impl Shelf {
         }
     }
 
+    /// The targets at which goods are on sale, in the order in which each was put on sale first.
+    pub fn targets(&self) -> &[Vec<u8>]
+        ensures { (h : History) → ShelfRepresents self.now h
+            → map (λ t. t.items) result.now ≡ goods_targets h }
+    {
+        self.targets.all()
+    }
+
+    /// What a target sells; None exactly where it sells nothing.
+    pub fn on_sale(&self, target: &[u8]) -> Option<OnSale>
+        ensures { (h : History) → ShelfRepresents self.now h → result ≡ on_sale_in h target.now }
+    {
+        match self.catalogue.sold(target) {
+            Some((_, edition)) => Some(edition.on_sale()),
+            None => None,
+        }
+    }
+
+    /// How many bytes of contents are on sale.
+    pub fn bytes_on_sale(&self) -> u64
+        ensures { (h : History) → ShelfRepresents self.now h → result ≡ goods.in_force h }
+    {
+        self.in_force
+    }
+
     /// What was minted under a reference; None exactly where the reference is new.
     pub(crate) fn minted(&self, reference: &[u8]) -> Option<Minting>
         ensures { (h : History) → ShelfRepresents self.now h → IsMinting h reference.now result }
@@ -92,6 +130,7 @@ impl Shelf {
     /// Learns the Goods entry of a number, for which there is room.
     fn learn_goods(&mut self, number: u64, target: &[u8], contents: &[u8]) -> Result<(), Unlawful>
         requires place { HasRoomAt self.old.catalogue target.now }
+        requires target { self.old.targets.next ≡ Some target.now }
         requires ready { IsSome self.old.next_article }
         requires range { IfSome self.old.next_article IsInRange }
         requires short { length contents.now ≤ MOST_CONTENTS }
@@ -112,6 +151,8 @@ impl Shelf {
             return Err(Unlawful);
         }
         let article = self.next_article.take().unwrap();
+        let is_new = self.catalogue.sold(target).is_none();
+        self.targets.list(is_new);
         self.catalogue.put(target, number, article);
         self.in_force = bytes;
         Ok(())
@@ -192,6 +233,7 @@ impl Trade for Shelf {
                 ..
             } => {
                 self.catalogue.reserve(target)?;
+                self.targets.reserve(target)?;
                 self.next_article = Some(Article::copy_of(self.alloc, price, kind, contents)?);
             }
             Record::Mint { reference, .. } => {

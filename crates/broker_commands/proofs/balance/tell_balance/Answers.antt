@@ -2,9 +2,9 @@ use Rattle.std.proofs.Common.{List, ℕ, sym}
 use Rattle.mc_requests.specs.declared.refusal.Refusal.TheVariants.{NoAccount}
 use Rattle.house_core.specs.Bench.{house_time}
 use Rattle.broker_core.specs.Desk.{desk_view}
-use Rattle.operator_command.proofs.CommandLemmas.{performs_refused}
+use Rattle.operator_command.proofs.CommandLemmas.{performs_refused, performs_stays}
 use Rattle.broker_commands.specs.Operations.{balance_words, balance_operation}
-use Rattle.broker_commands.proofs.AnswerLemmas.{no_account, an_account, balance_found, balance_said, performs_stays}
+use Rattle.broker_commands.proofs.AnswerLemmas.{no_account, an_account, balance_found, balance_said}
 use Rattle.broker_commands.proofs.balance.tell_balance.Goals as goal
 
 pub returns-in_default-clause-exact : goal.returns-in_default-clause-exact

@@ -1,7 +1,7 @@
 use Rattle.std.proofs.Common.{refl}
 use Rattle.command_table.specs.declared.table.CommandName.TheVariants as names
 use Rattle.command_table.specs.Table.{form_of}
-use Rattle.site_words.specs.Words.{broker_founder_values, inquiry_values, licence_upgrading_values, licensing_values, listing_values, minting_values, opening_values, movement_values, playing_values, pricing_values, server_values, settling_values, shop_values, stating_values, stocking_values, switching_values, taking_values, upgrading_values, vendor_founder_values}
+use Rattle.site_words.specs.Words.{broker_founder_values, inquiry_values, licence_upgrading_values, licensing_values, listing_values, looking_values, minting_values, opening_values, movement_values, playing_values, pricing_values, server_values, settling_values, shop_values, stating_values, stocking_values, switching_values, taking_values, upgrading_values, vendor_founder_values}
 use Rattle.wallet_words.specs.Words.{buying_values, drawing_values, getting_values, relaying_values, renewing_values, retrying_values, book_alone_values, wallet_founder_values}
 use Rattle.mc_words.specs.Commands.{command_with}
 use Rattle.mc_words.proofs.command.command_from.Goals as goal
@@ -33,6 +33,14 @@ returns-in_ok-upgrading-in-VendorUpgrade c = record { row = names.VendorUpgrade;
 pub returns-in_ok-switching-in-VendorChain : goal.returns-in_ok-switching-in-VendorChain
 unfolding form_of command_with switching_values
 returns-in_ok-switching-in-VendorChain c = record { row = names.VendorChain; is = c.in-VendorChain.is; one_sided = refl; values = switching_values c.in_ok-switching-in-VendorChain.switching; found' = c.in_ok-switching-in-VendorChain.ensures; made = refl }
+
+pub returns-in_ok-listed-in-VendorList : goal.returns-in_ok-listed-in-VendorList
+unfolding form_of command_with looking_values
+returns-in_ok-listed-in-VendorList c = record { row = names.VendorList; is = c.in-VendorList.is; one_sided = refl; values = looking_values c.in_ok-listed-in-VendorList.listed; found' = c.in_ok-listed-in-VendorList.ensures; made = refl }
+
+pub returns-in_ok-watched-in-VendorStatus : goal.returns-in_ok-watched-in-VendorStatus
+unfolding form_of command_with looking_values
+returns-in_ok-watched-in-VendorStatus c = record { row = names.VendorStatus; is = c.in-VendorStatus.is; one_sided = refl; values = looking_values c.in_ok-watched-in-VendorStatus.watched; found' = c.in_ok-watched-in-VendorStatus.ensures; made = refl }
 
 pub returns-in_ok-stating-in-VendorStatement : goal.returns-in_ok-stating-in-VendorStatement
 unfolding form_of command_with stating_values
@@ -85,6 +93,14 @@ returns-in_ok-moving-in-BrokerUpgrade c = record { row = names.BrokerUpgrade; is
 pub returns-in_ok-chained-in-BrokerChain : goal.returns-in_ok-chained-in-BrokerChain
 unfolding form_of command_with switching_values
 returns-in_ok-chained-in-BrokerChain c = record { row = names.BrokerChain; is = c.in-BrokerChain.is; one_sided = refl; values = switching_values c.in_ok-chained-in-BrokerChain.chained; found' = c.in_ok-chained-in-BrokerChain.ensures; made = refl }
+
+pub returns-in_ok-accounts-in-BrokerList : goal.returns-in_ok-accounts-in-BrokerList
+unfolding form_of command_with looking_values
+returns-in_ok-accounts-in-BrokerList c = record { row = names.BrokerList; is = c.in-BrokerList.is; one_sided = refl; values = looking_values c.in_ok-accounts-in-BrokerList.accounts; found' = c.in_ok-accounts-in-BrokerList.ensures; made = refl }
+
+pub returns-in_ok-state-in-BrokerStatus : goal.returns-in_ok-state-in-BrokerStatus
+unfolding form_of command_with looking_values
+returns-in_ok-state-in-BrokerStatus c = record { row = names.BrokerStatus; is = c.in-BrokerStatus.is; one_sided = refl; values = looking_values c.in_ok-state-in-BrokerStatus.state; found' = c.in_ok-state-in-BrokerStatus.ensures; made = refl }
 
 pub returns-in_ok-settling-in-BrokerSettle : goal.returns-in_ok-settling-in-BrokerSettle
 unfolding form_of command_with settling_values

@@ -28,7 +28,7 @@ returns-in-Err-clause-exact g c h st =
 pub enter_goods-requires-clause-within : goal.enter_goods-requires-clause-within
 enter_goods-requires-clause-within g c h st =
     let stands = c.trade.ensures h st in
-    let most : in_force h ≤ MOST_IN_FORCE = omega (arith, stands.in_force, stands.most) in
+    let most : in_force h ≤ MOST_IN_FORCE = omega (arith, stands.0.in_force, stands.0.most) in
     let goods = rw c.bytes.ensures.value at (c.in-Some.ensures.goods h stands) in
     repriced_within h (house_time c.args.house.bench) c.args.price _ c.args.target.now _ goods.0 most goods.1 (rw (c.deref.ensures.value, c.in-Ok.ensures.items) goods.3)
 

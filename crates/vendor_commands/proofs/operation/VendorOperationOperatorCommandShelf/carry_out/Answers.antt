@@ -61,3 +61,23 @@ pub returns-in-Chain-clause-refusals : goal.returns-in-Chain-clause-refusals
 returns-in-Chain-clause-refusals g c =
     let said : c.args.self.now ≡ operations.Chain c.in-Chain.field-0 = sym c.self.view_is ∙ c.in-Chain.is in
     rw said c.switch_book.ensures.refusals
+
+pub returns-in-List-clause-exact : goal.returns-in-List-clause-exact
+returns-in-List-clause-exact g c h st all begun =
+    let said : c.args.self.now ≡ operations.List c.in-List.field-0 = sym c.self.view_is ∙ c.in-List.is in
+    rw said (c.list_on_sale.ensures.exact h c.args.input.now st)
+
+pub returns-in-List-clause-refusals : goal.returns-in-List-clause-refusals
+returns-in-List-clause-refusals g c =
+    let said : c.args.self.now ≡ operations.List c.in-List.field-0 = sym c.self.view_is ∙ c.in-List.is in
+    rw said c.list_on_sale.ensures.refusals
+
+pub returns-in-Status-clause-exact : goal.returns-in-Status-clause-exact
+returns-in-Status-clause-exact g c h st all begun =
+    let said : c.args.self.now ≡ operations.Status c.in-Status.field-0 = sym c.self.view_is ∙ c.in-Status.is in
+    rw said (c.tell_status.ensures.exact h c.args.input.now st)
+
+pub returns-in-Status-clause-refusals : goal.returns-in-Status-clause-refusals
+returns-in-Status-clause-refusals g c =
+    let said : c.args.self.now ≡ operations.Status c.in-Status.field-0 = sym c.self.view_is ∙ c.in-Status.is in
+    rw said c.tell_status.ensures.refusals

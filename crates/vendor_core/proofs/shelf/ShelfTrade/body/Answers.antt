@@ -4,7 +4,7 @@ use Rattle.vendor_core.proofs.shelf.ShelfTrade.body.Goals as goal
 
 pub returns-in-Some-clause-brought : goal.returns-in-Some-clause-brought
 returns-in-Some-clause-brought c h stands kind held =
-    rw (c.in-Goods.is, c.body.ensures.brings) (edition_is_brought c.args.self.now.catalogue h c.in-Goods.goods c.in-Some.edition.now stands.of_goods (sym c.in-Some.ensures))
+    rw (c.in-Goods.is, c.body.ensures.brings) (edition_is_brought c.args.self.now.catalogue h c.in-Goods.goods c.in-Some.edition.now stands.0.of_goods (sym c.in-Some.ensures))
 
 pub returns-in-None-clause-brought : goal.returns-in-None-clause-brought
 returns-in-None-clause-brought c h stands kind held =
