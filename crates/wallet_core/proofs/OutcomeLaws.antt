@@ -12,7 +12,7 @@ use Rattle.wallet_core.specs.WalletView.{WalletView}
 use Rattle.wallet_core.specs.declared.outcome.WalletOut.{WalletOut}
 use Rattle.wallet_core.specs.declared.outcome.WalletOut.TheVariants.{Done, Refused, NoMemory, Halted}
 use Rattle.wallet_core.specs.Wallet.{WalletStands}
-use Rattle.wallet_core.specs.Outcomes.{IsAsItWas, Adds, Performs}
+use Rattle.wallet_core.specs.Outcomes.{IsAsItWas, Adds, Performs, AddsAfterMemory, PerformsAfterMemory}
 use Rattle.wallet_core.specs.Answers.{TellsOnly, IsFull, MayTake, MayPend}
 use Rattle.wallet_core.proofs.EnterLaws.{ran_nothing}
 
@@ -31,6 +31,20 @@ pub performs_as : {D A : Type 0} (view : D → DiskView) (old : WalletView D) (h
     → todo ≡ Ok e → ((a : A) → T e a → U e a) → Performs view old h (Ok e) T r → Performs view old h todo U r
 performs_as view old h e todo T U r is so performs =
     subst (λ (t : Result Entry Refusal). Performs view old h t U r) (sym is) (record { adds = tells_as view old h e T U r so performs.adds; ran = performs.ran })
+
+-- what comes of a call that judges first may come of one that takes memory first
+pub after_memory : {D A : Type 0} (view : D → DiskView) (old : WalletView D) (h : History) (todo : Result Entry Refusal) (T : Entry → A → Type 0) (r : WalletOut D A) → Performs view old h todo T r → PerformsAfterMemory view old h todo T r
+after_memory {D} {A} view old h todo T r performs = record { adds = adds_after todo r performs.adds; ran = performs.ran }
+  where
+    adds_after : (t : Result Entry Refusal) (out : WalletOut D A) → Adds view old h t T out → AddsAfterMemory view old h t T out
+    adds_after (Ok e) (Done x a) adds = adds
+    adds_after (Ok e) (Refused x f) adds = adds
+    adds_after (Ok e) (NoMemory x) adds = adds.1
+    adds_after (Ok e) (Halted d) adds = adds
+    adds_after (Err g) (Done x a) adds = adds
+    adds_after (Err g) (Refused x f) adds = adds
+    adds_after (Err g) (NoMemory x) adds = absurd adds
+    adds_after (Err g) (Halted d) adds = adds
 
 -- ---- another answer in the place of one
 
@@ -84,7 +98,7 @@ module _ {D A : Type 0} (view : D → DiskView) (x : WalletView D) (h : History)
       subst (λ (t : Result Entry Refusal). Performs view x h t T (Refused x f)) (sym is)
       (record { adds = (refl, as_it_stood view x h st); ran = ran_nothing view x.journal h disk st.journal })
 
-  -- or since memory was refused
-  pub wants_memory : (todo : Result Entry Refusal) → Performs view x h todo T (NoMemory x)
+  -- or since memory was refused before it could be judged
+  pub wants_memory : (todo : Result Entry Refusal) → PerformsAfterMemory view x h todo T (NoMemory x)
   wants_memory (Ok e) = record { adds = as_it_stood view x h st; ran = ran_nothing view x.journal h disk st.journal }
   wants_memory (Err f) = record { adds = as_it_stood view x h st; ran = ran_nothing view x.journal h disk st.journal }

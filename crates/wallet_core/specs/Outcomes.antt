@@ -75,16 +75,20 @@ pub record IsInDoubt {D : Type 0} (view : D → DiskView) (old : WalletView D) (
   pub rose : Rose (view old.journal.disk).faults (view d).faults
 
 -- Of an entry that is to be added to a history, or of a refusal in its place: the entry was added, and `Tells` holds
--- of it and of what is answered; or it does not fit the journal (33), or it is refused so, or memory was refused, and
--- the wallet is as it was; or the disk failed.
+-- of it and of what is answered; or it does not fit the journal (33), or it fits and memory was refused, and the wallet is as
+-- it was; or the disk failed. What is refused is judged before memory is taken: it is told as it is, never as want of memory.
 abbrev pub Adds : {D A : Type 0} → (D → DiskView) → WalletView D → History → Result Entry Refusal → (Entry → A → Type 0) → WalletOut D A → Type 0
 Adds view old h (Ok e) Tells (Done x a) = HasAdded view old x h e × Tells e a
 Adds view old h (Ok e) Tells (Refused x f) = (fitted h old.book.limits e ≡ Err (lines.Refuse f)) × IsAsItWas view old x h
-Adds view old h (Ok e) Tells (NoMemory x) = IsAsItWas view old x h
+Adds view old h (Ok e) Tells (NoMemory x) = (fitted h old.book.limits e ≡ Ok e) × IsAsItWas view old x h
 Adds view old h (Ok e) Tells (Halted d) = IsInDoubt view old d h e
 Adds view old h (Err g) Tells (Refused x f) = (f ≡ g) × IsAsItWas view old x h
-Adds view old h (Err g) Tells (NoMemory x) = IsAsItWas view old x h
 Adds view old h (Err g) Tells _ = ⊥
+
+-- The same of a call that takes memory before it can judge: want of memory may come before the refusal.
+abbrev pub AddsAfterMemory : {D A : Type 0} → (D → DiskView) → WalletView D → History → Result Entry Refusal → (Entry → A → Type 0) → WalletOut D A → Type 0
+AddsAfterMemory view old h todo Tells (NoMemory x) = IsAsItWas view old x h
+AddsAfterMemory view old h todo Tells out = Adds view old h todo Tells out
 
 -- The crash pairs of the call: with the entry or without it where one was written, else with the entries as they
 -- were; and nothing was sent.
@@ -96,4 +100,9 @@ LeavesBy _ _ h aside c s = EncodesNoOutput h aside c s
 -- what a history asks to be added was added, or not, as told, and a crash in the call left what it may
 pub record Performs {D A : Type 0} (view : D → DiskView) (old : WalletView D) (h : History) (todo : Result Entry Refusal) (Tells : Entry → A → Type 0) (result : WalletOut D A) : Type 0 where
   pub adds : Adds view old h todo Tells result
+  pub ran : Ran (view old.journal.disk) (view (outcome_disk result)) (LeavesBy todo result h (view old.journal.disk).aside)
+
+-- likewise of a call that takes memory before it can judge
+pub record PerformsAfterMemory {D A : Type 0} (view : D → DiskView) (old : WalletView D) (h : History) (todo : Result Entry Refusal) (Tells : Entry → A → Type 0) (result : WalletOut D A) : Type 0 where
+  pub adds : AddsAfterMemory view old h todo Tells result
   pub ran : Ran (view old.journal.disk) (view (outcome_disk result)) (LeavesBy todo result h (view old.journal.disk).aside)

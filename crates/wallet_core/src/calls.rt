@@ -14,7 +14,7 @@ ghost use Rattle.wallet_core.specs.Requests.{pending_view, pend_of};
 ghost use Rattle.wallet_core.specs.Settled.{IsSettledAs};
 ghost use Rattle.wallet_core.specs.Taking.{take_entry};
 ghost use Rattle.wallet_core.specs.Wallet.{WalletStands};
-ghost use Rattle.wallet_core.specs.Outcomes.{HandsBack, Performs};
+ghost use Rattle.wallet_core.specs.Outcomes.{HandsBack, Performs, PerformsAfterMemory};
 ghost use Rattle.wallet_core.specs.Answers.{TellsNumber, TellsCount, TellsOnly, Any, IsFull, MayTake, MayPend, MayCheck};
 ghost use Rattle.wallet_core.specs.Checking.{Checks, IsWritten};
 
@@ -39,11 +39,11 @@ impl<D: Disk> Wallet<D> {
     /// Refused with 53 `BadInput` and the first line that is no piece line, 0 where there are none, and 257 where more
     /// bytes follow behind 256 right lines. Then with 61 `TwiceHeld` and the identity of the first piece that came
     /// before, whatever its state, or that stands twice in these lines, by vendor and identity. Then with 33
-    /// `JournalFull`.
+    /// `JournalFull`. The pieces are read into memory before they are judged, so want of it may come first.
     pub fn take(self, lines: &[u8]) -> WalletOut<D, u16>
         ensures back { HandsBack D.disk D.disk_moved self result }
         ensures exact { (h : History) → WalletStands D.disk self h
-            → Performs D.disk self h (take_entry h self.book.time lines.now) TellsCount result }
+            → PerformsAfterMemory D.disk self h (take_entry h self.book.time lines.now) TellsCount result }
         ensures refused { TellsOnly MayTake Any result }
     {
         match take_pieces(self.alloc, &self.book, lines) {
@@ -64,7 +64,8 @@ impl<D: Disk> Wallet<D> {
     /// none. Answers the number of the Pend entry. Amounts are at least 1 unit, and an order is 1 to 2^40.
     ///
     /// Refused with 62 `NoFunds` and the greatest value of the held pieces of the house that are not expired, 0 where
-    /// there are none, where no such piece covers the limit. Then with 33 `JournalFull`.
+    /// there are none, where no such piece covers the limit. Then with 33 `JournalFull`. Only then memory is taken, so
+    /// neither is told as want of it.
     pub fn pend(self, ask: &Ask) -> WalletOut<D, u64>
         requires { HasAmounts ask.now }
         ensures back { HandsBack D.disk D.disk_moved self result }

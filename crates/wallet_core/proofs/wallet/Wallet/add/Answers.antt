@@ -56,11 +56,14 @@ pub returns-in-Err-reserve-clause-exact : goal.returns-in-Err-reserve-clause-exa
 returns-in-Err-reserve-clause-exact g c = rw (← c.wallet.view_is) (λ h st.
     let made = c.reserve.ensures in
     record {
-      adds = record {
-        stands = record { journal = st.journal; book = made.same h st.book; limit = st.limit ∙ ap (λ (l : Limits). l.journal) (sym made.limits) };
-        journal' = refl;
-        time' = made.time;
-      };
+      adds = (
+        c.in-Ok.ensures.fitted h (entry c.args.r.now) st.book c.payload_len-bytes.ensures,
+        record {
+          stands = record { journal = st.journal; book = made.same h st.book; limit = st.limit ∙ ap (λ (l : Limits). l.journal) (sym made.limits) };
+          journal' = refl;
+          time' = made.time;
+        },
+      );
       ran = ran_nothing g.D.Disk.disk c.wallet.inside.journal h (g.met.D.Disk.is_disk c.wallet.inside.journal.disk) st.journal;
     })
 
