@@ -197,9 +197,8 @@ module _ {O : Type 0} (link : O → LinkView) (disk : O → DiskView) (a b : O) 
   )
 
   asking_reason : (k : Saying) (h : History) (t : ℕ) (todo : Result Entry Refusal) (clocked : LinkView) → PaysAs k link disk h t todo a clocked (ends.Refused f) b → RefusesAsking h t todo clocked f
-  asking_reason k h t (Err g) clocked (inl is, not) = cc is
-  asking_reason k h t (Err g) clocked (inr is, not) = absurd (cc is)
-  asking_reason k h t (Ok e) clocked (inl (inl is, not)) = absurd (cc is)
+  asking_reason k h t (Err g) clocked (is, not) = cc is
+  asking_reason k h t (Ok e) clocked (inl (inl wants, not)) = absurd (cc wants.0)
   asking_reason k h t (Ok e) clocked (inl (inr (g, is, full), not)) = let same : f ≡ g = cc is in inl (full ∙ ap (λ (x : Refusal). Err (lines.Refuse x)) (sym same))
   asking_reason k h t (Ok e) clocked (inr (inl doubt)) = absurd (cc doubt.0)
   asking_reason k h t (Ok e) clocked (inr (inr asked)) =

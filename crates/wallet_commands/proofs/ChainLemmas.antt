@@ -42,7 +42,7 @@ module _ {O : Type 0} (disk : O → DiskView) (h : History) (y : WalletView O) (
       (ends' g performs.adds.0.stands ∙ ap (λ (w : List ℕ). w ++ chain_end (length g) (chain g)) begun, on_disk disk x g performs.adds.0.stands)
   chained_by words line false (outs.Refused x f) limits begun performs ends' =
       (subst (λ (l : Limits). fitted h l (Switch y.book.time (chain h)) ≡ Err (lines.Refuse f)) limits performs.adds.0, on_disk disk x h performs.adds.1.stands)
-  chained_by words line false (outs.NoMemory x) limits begun performs ends' = on_disk disk x h performs.adds.stands
+  chained_by words line false (outs.NoMemory x) limits begun performs ends' = on_disk disk x h performs.adds.1.stands
   chained_by words line false (outs.Halted d) limits begun performs ends' = doubted disk h y (Switch y.book.time (chain h)) d (TellsAdded h) (is_disk d) st performs.adds performs.ran
 
   -- and what a crash left

@@ -247,9 +247,8 @@ used_readable : (k : Saying) {O : Type 0} (link : O → LinkView) (disk : O → 
 used_readable k link disk h t n p a b status used = ends_readable k h t n p used.learned used.middle status (disk b) (link b) used.ends'
 
 paid_readable : (k : Saying) {O : Type 0} (link : O → LinkView) (disk : O → DiskView) (h : History) (t : ℕ) (todo : Result Entry Refusal) (a b : O) (clocked : LinkView) (status : Status) → PaysAs k link disk h t todo a clocked status b → Readable status
-paid_readable k link disk h t (Err f) a b clocked status (inl is, not) = told_as status (ends.Refused f) is (λ e. cc e)
-paid_readable k link disk h t (Err f) a b clocked status (inr is, not) = told_as status ends.NoMemory is (λ e. cc e)
-paid_readable k link disk h t (Ok e) a b clocked status (inl (inl is, not)) = told_as status ends.NoMemory is (λ x. cc x)
+paid_readable k link disk h t (Err f) a b clocked status (is, not) = told_as status (ends.Refused f) is (λ e. cc e)
+paid_readable k link disk h t (Ok e) a b clocked status (inl (inl wants, not)) = told_as status ends.NoMemory wants.0 (λ x. cc x)
 paid_readable k link disk h t (Ok e) a b clocked status (inl (inr full, not)) = told_as status (ends.Refused full.0) full.1 (λ x. cc x)
 paid_readable k link disk h t (Ok e) a b clocked status (inr (inl doubt)) = told_as status ends.DiskFault doubt.0 (λ x. cc x)
 paid_readable k link disk h t (Ok e) a b clocked status (inr (inr asked)) = used_readable k link disk (h ++ e ∷ []) t (length h) asked.p asked.entered b status asked.since

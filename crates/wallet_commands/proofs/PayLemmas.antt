@@ -169,20 +169,20 @@ module _ {O : Type 0} (link : O → LinkView) (disk : O → DiskView) (bytes : L
   pub pay_refused : (k : Saying) (todo : Result Entry Refusal) (z : WalletView O) (f : Refusal) (T : Entry → ℕ → Type 0) → y.book.limits ≡ FULL → Adds disk y at.opened.opened.history todo T (outs.Refused z f)
       → PaysAs k link disk at.opened.opened.history y.book.time todo a (link y.journal.disk) (ends.Refused f) z.journal.disk
   pay_refused k (Ok e) z f T limits adds = inl (inr (f, refl, subst (λ (l : Limits). fitted at.opened.opened.history l e ≡ Err (lines.Refuse f)) limits adds.0), not_asked z adds.1.stands adds.1.journal')
-  pay_refused k (Err g) z f T limits adds = (inl (ap (λ (r : Refusal). ends.Refused r) adds.0), not_asked z adds.1.stands adds.1.journal')
+  pay_refused k (Err g) z f T limits adds = (ap (λ (r : Refusal). ends.Refused r) adds.0, not_asked z adds.1.stands adds.1.journal')
 
   -- nothing is due
   pub not_due : (vendor target : List ℕ) (before : ℕ) → due_entry at.opened.opened.history y.book.time vendor target before ≡ Err refusals.NothingDue
       → PaysAs (sayings.Renewal vendor) link disk at.opened.opened.history y.book.time (due_entry at.opened.opened.history y.book.time vendor target before) a (link y.journal.disk) (ends.Refused refusals.NothingDue) y.journal.disk
   not_due vendor target before none =
       subst (λ (todo : Result Entry Refusal). PaysAs (sayings.Renewal vendor) link disk at.opened.opened.history y.book.time todo a (link y.journal.disk) (ends.Refused refusals.NothingDue) y.journal.disk) (sym none)
-      (inl refl, not_asked y at.stands refl)
+      (refl, not_asked y at.stands refl)
 
   -- memory was refused
-  pub pay_wants : (k : Saying) (todo : Result Entry Refusal) (z : WalletView O) (T : Entry → ℕ → Type 0) → Adds disk y at.opened.opened.history todo T (outs.NoMemory z)
+  pub pay_wants : (k : Saying) (todo : Result Entry Refusal) (z : WalletView O) (T : Entry → ℕ → Type 0) → y.book.limits ≡ FULL → Adds disk y at.opened.opened.history todo T (outs.NoMemory z)
       → PaysAs k link disk at.opened.opened.history y.book.time todo a (link y.journal.disk) ends.NoMemory z.journal.disk
-  pay_wants k (Ok e) z T adds = inl (inl refl, not_asked z adds.stands adds.journal')
-  pay_wants k (Err g) z T adds = (inr refl, not_asked z adds.stands adds.journal')
+  pay_wants k (Ok e) z T limits adds = inl (inl (refl, subst (λ (l : Limits). fitted at.opened.opened.history l e ≡ Ok e) limits adds.0), not_asked z adds.1.stands adds.1.journal')
+  pay_wants k (Err g) z T limits adds = absurd adds
 
   -- the disk failed
   pub pay_doubted : (k : Saying) (todo : Result Entry Refusal) (d : O) (T : Entry → ℕ → Type 0) → IsDisk (disk d) → link d ≡ link y.journal.disk → Adds disk y at.opened.opened.history todo T (outs.Halted d)

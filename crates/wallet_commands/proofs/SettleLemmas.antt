@@ -163,7 +163,11 @@ module _ {O : Type 0} (link : O → LinkView) (disk : O → DiskView) (h : Histo
       (told_as k h e p r (came_behind (length y.book.holdings) x.book.holdings) s adds.1 (brought_behind h e y.book x.book st.book adds.0.stands.book)) (on_disk disk x _ adds.0.stands)
   settles k before y (outs.Refused x f) limits st is_disk said adds ran =
       (said, inr (f, refl, subst (λ (l : Limits). fitted h l (settlement h y.book.time n p r) ≡ Err (lines.Refuse f)) limits adds.0, on_disk disk x h adds.1.stands))
-  settles k before y (outs.NoMemory x) limits st is_disk said adds ran = (on_disk disk x h adds.stands, said)
+  settles k before y (outs.NoMemory x) limits st is_disk said adds ran = (
+    on_disk disk x h adds.1.stands,
+    said,
+    subst (λ (l : Limits). fitted h l (settlement h y.book.time n p r) ≡ Ok (settlement h y.book.time n p r)) limits adds.0,
+  )
   settles k before y (outs.Halted d) limits st is_disk said adds ran = (
     record { leaves = λ image l. (ran_now (disk y.journal.disk) (disk d) _ (is_disk d) ran image l).0; lawful = book_grows h (settlement h y.book.time n p r) st.book.lawful adds.follows },
     said,

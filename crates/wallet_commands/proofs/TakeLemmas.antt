@@ -23,7 +23,7 @@ use Rattle.wallet_core.specs.declared.outcome.WalletOut.{WalletOut}
 use Rattle.wallet_core.specs.declared.outcome.WalletOut.TheVariants as outs
 use Rattle.wallet_core.specs.Wallet.{WalletStands}
 use Rattle.wallet_core.specs.Answers.{TellsCount}
-use Rattle.wallet_core.specs.Outcomes.{outcome_disk, Adds, LeavesBy}
+use Rattle.wallet_core.specs.Outcomes.{outcome_disk, AddsAfterMemory, LeavesBy}
 use Rattle.wallet_commands.specs.declared.taking.TheConstants.{MOST_LINES}
 use Rattle.wallet_commands.specs.Lines.{taken_line}
 use Rattle.wallet_commands.specs.Books.{Opened, OldPair, AddPair}
@@ -40,7 +40,7 @@ count_is h (Got m pieces) count is = is
 count_is h e count is = absurd is
 
 took_by : {O : Type 0} (disk : O → DiskView) (h : History) (y : WalletView O) (todo : Result Entry Refusal) (out : WalletOut O ℕ) → y.book.limits ≡ FULL → WalletStands disk y h → ((o : O) → IsDisk (disk o))
-    → Adds disk y h todo TellsCount out → Ran (disk y.journal.disk) (disk (outcome_disk out)) (LeavesBy todo out h (disk y.journal.disk).aside) → TookBy (disk (outcome_disk out)) h todo (taken_status out)
+    → AddsAfterMemory disk y h todo TellsCount out → Ran (disk y.journal.disk) (disk (outcome_disk out)) (LeavesBy todo out h (disk y.journal.disk).aside) → TookBy (disk (outcome_disk out)) h todo (taken_status out)
 took_by disk h y (Ok e) (outs.Done x count) limits st is_disk adds ran = (ap taken_line (count_is h e count adds.1), on_disk disk x (h ++ e ∷ []) adds.0.stands)
 took_by disk h y (Ok e) (outs.Refused x f) limits st is_disk adds ran = (subst (λ (l : Limits). fitted h l e ≡ Err (lines.Refuse f)) limits adds.0, on_disk disk x h adds.1.stands)
 took_by disk h y (Ok e) (outs.NoMemory x) limits st is_disk adds ran = on_disk disk x h adds.stands
@@ -78,7 +78,7 @@ module _ {O : Type 0} (link : O → LinkView) (disk : O → DiskView) (bytes : L
   pub took : (m y : WalletView O) (input : List ℕ) (moment : ℕ) (out : WalletOut O ℕ) → ((o : O) → IsDisk (disk o)) → y.book.limits ≡ FULL → m.book.time ≡ x.book.time → IsInput MOST_LINES (link x.journal.disk) input (link m.journal.disk)
       → LinkKeeps (disk x.journal.disk) (disk y.journal.disk) → WalletStands disk y at.opened.history → y.book.time ≡ max m.book.time moment
       → link y.journal.disk ≡ with_readings (link y.journal.disk).readings (link m.journal.disk) → AreRead OfLinks (moment ∷ []) (link m.journal.disk).readings (link y.journal.disk).readings
-      → link (outcome_disk out) ≡ link y.journal.disk → Adds disk y at.opened.history (take_entry at.opened.history y.book.time input) TellsCount out
+      → link (outcome_disk out) ≡ link y.journal.disk → AddsAfterMemory disk y at.opened.history (take_entry at.opened.history y.book.time input) TellsCount out
       → Ran (disk y.journal.disk) (disk (outcome_disk out)) (LeavesBy (take_entry at.opened.history y.book.time input) out at.opened.history (disk y.journal.disk).aside) → Took link disk bytes a (taken_status out) (outcome_disk out)
   took m y input moment out is_disk limits early takes keeps st raised rest read same adds ran =
       let h : History = at.opened.history in

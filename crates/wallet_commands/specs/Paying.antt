@@ -57,10 +57,10 @@ ended_as sayings.Contents h e p r = ended_by p r
 ended_as (sayings.Renewal vendor) h e p r = renewed_by vendor h e r
 
 -- The reply settles the request of a number, at a time: what was to be said first was said, and then the settlement was
--- written; or one of the two failed, and 33 JournalFull or want of memory leaves the book as it was.
+-- written; or one of the two failed, and 33 JournalFull, or want of memory where it fits, leaves the book as it was.
 abbrev pub SettlesAs : Saying → History → ℕ → ℕ → Pending → Received → LinkView → Status → DiskView → LinkView → Type 0
 SettlesAs k h t n p r before ends.LinkFault d after = EncodesWallet d h × IsSaidInPart (said_as k p r) before after
-SettlesAs k h t n p r before ends.NoMemory d after = EncodesWallet d h × IsSaid (said_as k p r) before after
+SettlesAs k h t n p r before ends.NoMemory d after = EncodesWallet d h × IsSaid (said_as k p r) before after × (fitted h FULL (settlement h t n p r) ≡ Ok (settlement h t n p r))
 SettlesAs k h t n p r before ends.DiskFault d after = EncodesEither d h (settlement h t n p r) × IsSaid (said_as k p r) before after
 SettlesAs k h t n p r before status d after =
     IsSaid (said_as k p r) before after
@@ -137,11 +137,12 @@ pub record AskedAs (k : Saying) {O : Type 0} (link : O → LinkView) (disk : O �
   pub until : Ran (disk a) (disk entered) (EntryPair (IsSome (link a).sessions) (disk a) h e)
   pub since : UsesLinkAs k link disk (h ++ e ∷ []) t (length h) p entered status b
 
--- what becomes of a Pend entry, or of the refusal in its place
+-- What becomes of a Pend entry, or of the refusal in its place, which is told as it is. Memory is refused only once the entry
+-- was seen to fit the journal.
 abbrev pub PaysAs : Saying → {O : Type 0} → (O → LinkView) → (O → DiskView) → History → ℕ → Result Entry Refusal → O → LinkView → Status → O → Type 0
-PaysAs k link disk h t (Err f) a clocked status b = ((status ≡ ends.Refused f) ⊎ (status ≡ ends.NoMemory)) × NotAsked link disk h a clocked b
+PaysAs k link disk h t (Err f) a clocked status b = (status ≡ ends.Refused f) × NotAsked link disk h a clocked b
 PaysAs k link disk h t (Ok e) a clocked status b =
-    (((status ≡ ends.NoMemory) ⊎ ((f : Refusal) × (status ≡ ends.Refused f) × (fitted h FULL e ≡ Err (lines.Refuse f)))) × NotAsked link disk h a clocked b)
+    ((((status ≡ ends.NoMemory) × (fitted h FULL e ≡ Ok e)) ⊎ ((f : Refusal) × (status ≡ ends.Refused f) × (fitted h FULL e ≡ Err (lines.Refuse f)))) × NotAsked link disk h a clocked b)
     ⊎ (((status ≡ ends.DiskFault) × InDoubt link disk h e a clocked b)
     ⊎ AskedAs k link disk h t e a clocked status b)
 

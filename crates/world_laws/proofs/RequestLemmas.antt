@@ -239,9 +239,8 @@ paying_is_played link disk w j h asking moment a clocked status b at can lt pays
     at_time todo is = subst (λ (t : ℕ). pend_entry h t asking ≡ todo) (sym (moment_is h moment lt)) is
 
     by : (todo : Result Entry Refusal) → pend_entry h (max (time h) moment) asking ≡ todo → PaysBy link disk h (max (time h) moment) todo a clocked status b → PaidAs w j h asking moment clocked (link b) status (disk b)
-    by (Err f) is (inl none, stays) = inl (inr (f, none, inl (at_time (Err f) is)), stays.link', stays.left)
-    by (Err f) is (inr starved, stays) = inl (inl starved, stays.link', stays.left)
-    by (Ok e) is (inl (inl starved, stays)) = inl (inl starved, stays.link', stays.left)
+    by (Err f) is (told, stays) = inl (inr (f, told, inl (at_time (Err f) is)), stays.link', stays.left)
+    by (Ok e) is (inl (inl starved, stays)) = inl (inl starved.0, stays.link', stays.left)
     by (Ok e) is (inl (inr (f, told, full), stays)) = inl (inr (f, told, inr (e, at_time (Ok e) is, full)), stays.link', stays.left)
     by (Ok e) is (inr (inl x)) =
         let p = asks h (max (time h) moment) asking e is in

@@ -88,7 +88,7 @@ returns-in-NoMemory-clause-paid g c a x at =
     let done = c.in-NoMemory.ensures.exact h clock.stands in
     rw c.close-in-NoMemory.ensures (clocked_by g.O.Link.link g.O.Disk.disk x a w y c.raise_by_clock-reading.result g.met.O.Outside.sent_aside clock
     (λ i t clocked. PaysBy g.O.Link.link g.O.Disk.disk i t (pend_entry i t (asking_of c.args.ask.now)) a clocked ends.NoMemory c.in-NoMemory.wallet.journal.disk)
-    (pay_wants g.O.Link.link g.O.Disk.disk x a w y c.raise_by_clock-reading.result g.met.O.Outside.sent_aside clock sayings.Contents (pend_entry h y.book.time (asking_of c.args.ask.now)) c.in-NoMemory.wallet (TellsNumber h) done.adds))
+    (pay_wants g.O.Link.link g.O.Disk.disk x a w y c.raise_by_clock-reading.result g.met.O.Outside.sent_aside clock sayings.Contents (pend_entry h y.book.time (asking_of c.args.ask.now)) c.in-NoMemory.wallet (TellsNumber h) (r.limits ∙ c.requires.limits) done.adds))
 
 pub returns-clause-causes : goal.returns-clause-causes
 returns-clause-causes g c =

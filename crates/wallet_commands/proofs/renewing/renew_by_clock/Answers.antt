@@ -122,7 +122,7 @@ returns-in-NoMemory-clause-renewed g c a x at =
     let done = due_performs {A = ℕ} g.O.Disk.disk y h c.args.vendor.now c.args.target.now c.args.before pays.holding.piece.value c.in-Some.place c.get_with-ask.result (TellsNumber h) (outs.NoMemory c.in-NoMemory.wallet) what (c.in-Some.ensures.due h clock.stands) (c.in-NoMemory.ensures.exact h clock.stands) in
     rw c.close-in-NoMemory.ensures (clocked_by g.O.Link.link g.O.Disk.disk x a w y c.raise_by_clock-reading.result g.met.O.Outside.sent_aside clock
     (λ i t clocked. PaysAs (sayings.Renewal c.args.vendor.now) g.O.Link.link g.O.Disk.disk i t (due_entry i t c.args.vendor.now c.args.target.now c.args.before) a clocked ends.NoMemory c.in-NoMemory.wallet.journal.disk)
-    (pay_wants g.O.Link.link g.O.Disk.disk x a w y c.raise_by_clock-reading.result g.met.O.Outside.sent_aside clock (sayings.Renewal c.args.vendor.now) todo c.in-NoMemory.wallet (TellsNumber h) done.adds))
+    (pay_wants g.O.Link.link g.O.Disk.disk x a w y c.raise_by_clock-reading.result g.met.O.Outside.sent_aside clock (sayings.Renewal c.args.vendor.now) todo c.in-NoMemory.wallet (TellsNumber h) (r.limits ∙ c.requires.limits) done.adds))
 
 pub returns-clause-causes : goal.returns-clause-causes
 returns-clause-causes g c =
