@@ -1,6 +1,7 @@
+use crate::calling::{Calling, receive, send};
 use crate::source::Source;
 use std::io;
-use std::io::{ErrorKind, Read, Write};
+use std::io::ErrorKind;
 use std::net::{Net, OpenStream, SocketAddr, ToSocketAddrs};
 use std::time::Duration;
 
@@ -50,6 +51,17 @@ impl<'a, R: Net> Caller<'a, R> {
     }
 }
 
+impl<'a, R: Net> Calling for Caller<'a, R> {
+    type Stream = R::Stream;
+
+    fn stream(&mut self) -> io::Result<&mut R::Stream> {
+        match &mut self.stream {
+            Some(stream) => Ok(stream),
+            None => Err(ErrorKind::NotConnected.into()),
+        }
+    }
+}
+
 impl<'a, R: Net> Source for Caller<'a, R> {
     fn next(&mut self) -> io::Result<bool> {
         self.stream = None;
@@ -72,29 +84,11 @@ impl<'a, R: Net> Source for Caller<'a, R> {
     }
 
     fn recv(&mut self, buf: &mut [u8]) -> io::Result<usize> {
-        let Some(stream) = &mut self.stream else {
-            return Err(ErrorKind::NotConnected.into());
-        };
-        for _ in 0..u32::MAX {
-            match stream.read(buf) {
-                Err(e) if e.kind() == ErrorKind::Interrupted => {}
-                answer => return answer,
-            }
-        }
-        Err(ErrorKind::TimedOut.into())
+        receive(self, buf)
     }
 
     fn send(&mut self, bytes: &[u8]) -> io::Result<usize> {
-        let Some(stream) = &mut self.stream else {
-            return Err(ErrorKind::NotConnected.into());
-        };
-        for _ in 0..u32::MAX {
-            match stream.write(bytes) {
-                Err(e) if e.kind() == ErrorKind::Interrupted => {}
-                answer => return answer,
-            }
-        }
-        Err(ErrorKind::TimedOut.into())
+        send(self, bytes)
     }
 
     fn is_operators(&self) -> bool {

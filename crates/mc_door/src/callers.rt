@@ -1,7 +1,8 @@
 use crate::caller::{Called, PATIENCE, connection};
+use crate::calling::{Calling, receive, send};
 use crate::source::Source;
 use std::io;
-use std::io::{ErrorKind, Read, Write};
+use std::io::ErrorKind;
 use std::net::{Net, OpenStream};
 use std::rt::Clock;
 use std::time::{Duration, Instant};
@@ -41,7 +42,9 @@ pub fn call_each<'a, R: Net, C: Clock>(rt: &'a R, address: &'a str, clock: C) ->
     }
 }
 
-impl<'a, R: Net, C: Clock> Callers<'a, R, C> {
+impl<'a, R: Net, C: Clock> Calling for Callers<'a, R, C> {
+    type Stream = R::Stream;
+
     /// The connection of the link that stands, which waits for its peer no longer than the link may stand.
     fn stream(&mut self) -> io::Result<&mut R::Stream> {
         let Some(standing) = &mut self.standing else {
@@ -75,23 +78,11 @@ impl<'a, R: Net, C: Clock> Source for Callers<'a, R, C> {
     }
 
     fn recv(&mut self, buf: &mut [u8]) -> io::Result<usize> {
-        for _ in 0..u32::MAX {
-            match self.stream()?.read(buf) {
-                Err(e) if e.kind() == ErrorKind::Interrupted => {}
-                answer => return answer,
-            }
-        }
-        Err(ErrorKind::TimedOut.into())
+        receive(self, buf)
     }
 
     fn send(&mut self, bytes: &[u8]) -> io::Result<usize> {
-        for _ in 0..u32::MAX {
-            match self.stream()?.write(bytes) {
-                Err(e) if e.kind() == ErrorKind::Interrupted => {}
-                answer => return answer,
-            }
-        }
-        Err(ErrorKind::TimedOut.into())
+        send(self, bytes)
     }
 
     fn is_operators(&self) -> bool {

@@ -8,6 +8,7 @@
 
 mod caller;
 mod callers;
+mod calling;
 mod commands;
 mod connection;
 mod connections;

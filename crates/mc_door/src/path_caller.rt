@@ -1,7 +1,8 @@
 use crate::caller::PATIENCE;
+use crate::calling::{Calling, receive, send};
 use crate::source::Source;
 use std::io;
-use std::io::{ErrorKind, Read, Write};
+use std::io::ErrorKind;
 use std::net::{Net, Shutdown};
 use std::os::unix::net::UnixStream;
 use std::time::Duration;
@@ -39,6 +40,10 @@ impl<'a, R> PathCaller<'a, R> {
     pub fn reason(&self) -> Option<io::Error> {
         self.reason
     }
+}
+
+impl<'a, R> Calling for PathCaller<'a, R> {
+    type Stream = UnixStream;
 
     fn stream(&mut self) -> io::Result<&mut UnixStream> {
         match &mut self.stream {
@@ -72,23 +77,11 @@ impl<'a, R: Net> Source for PathCaller<'a, R> {
             self.told = true;
             self.stream()?.shutdown(Shutdown::Write)?;
         }
-        for _ in 0..u32::MAX {
-            match self.stream()?.read(buf) {
-                Err(e) if e.kind() == ErrorKind::Interrupted => {}
-                answer => return answer,
-            }
-        }
-        Err(ErrorKind::TimedOut.into())
+        receive(self, buf)
     }
 
     fn send(&mut self, bytes: &[u8]) -> io::Result<usize> {
-        for _ in 0..u32::MAX {
-            match self.stream()?.write(bytes) {
-                Err(e) if e.kind() == ErrorKind::Interrupted => {}
-                answer => return answer,
-            }
-        }
-        Err(ErrorKind::TimedOut.into())
+        send(self, bytes)
     }
 
     fn is_operators(&self) -> bool {

@@ -107,14 +107,24 @@ const FOLDER_MODE: u32 = 0o700;
 
 const FILE_MODE: u32 = 0o600;
 
+/// The most bytes of a path that a socket is made at.
+const MOST_PATH: usize = 107;
+
+/// How the folder is named in which a socket is made, behind the front of the socket's own path; and the socket in it.
+const FOLDER_END: &str = ".d";
+
+const SOCKET_END: &str = ".d/s";
+
 /// A socket at a path, as [`bind_path`] has it, whose file its owner alone may use at every moment: it is made in a folder that
-/// he alone may enter, PATH.d, gets its mode there, and then its name. The folder is taken away again, also where it was left.
+/// he alone may enter, gets its mode there, and then its name. The folder is PATH.d, or where that has no room for a socket's
+/// path, as much of PATH and .d as has. It is taken away again, also where it was left.
 fn bind_hidden<R: Net + Files>(rt: &R, alloc: Global, path: &str) -> io::Result<UnixListener> {
     if is_there(rt, path) && !is_left(rt, path) {
         return Err(ErrorKind::AddrInUse.into());
     }
-    let folder = format!(in alloc; "{path}.d")?;
-    let inside = format!(in alloc; "{path}.d/s")?;
+    let front = front_of(path, MOST_PATH.saturating_sub(SOCKET_END.len()));
+    let folder = format!(in alloc; "{front}{FOLDER_END}")?;
+    let inside = format!(in alloc; "{front}{SOCKET_END}")?;
     take_away(rt, &folder, &inside);
     DirBuilder::new()
         .mode(FOLDER_MODE)
@@ -122,6 +132,18 @@ fn bind_hidden<R: Net + Files>(rt: &R, alloc: Global, path: &str) -> io::Result<
     let bound = bind_inside(rt, &inside, path);
     take_away(rt, &folder, &inside);
     bound
+}
+
+/// As much of a path's front as has at most so many bytes. What is left out is of its last name alone, or else nothing is.
+fn front_of(path: &str, most: usize) -> &str {
+    for end in (0..=most).rev() {
+        match path.get(..end) {
+            Some(front) if !path.get(end..).unwrap_or("").contains('/') => return front,
+            Some(_) => return path,
+            None => {}
+        }
+    }
+    path
 }
 
 /// A socket that is made at one path, gets its mode there, and then the other path.
