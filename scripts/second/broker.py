@@ -1,6 +1,7 @@
 """The commands of a broker."""
 from types import SimpleNamespace
 
+import looking
 import settlement
 import vendor
 from desk import MOST_BALANCE
@@ -190,6 +191,14 @@ def chain(order, stage):
     return chained(kept(stage, BROKER))
 
 
+def list_of(order, stage):
+    return looking.account_lines(kept(stage, BROKER))
+
+
+def status(order, stage):
+    return looking.broker_status(kept(stage, BROKER))
+
+
 def settle(order, stage):
     return settlement.settle(*input_house(stage, is_taken=settlement.is_in_order))
 
@@ -205,6 +214,8 @@ COMMANDS = {
     b"stock": (2, (), (), parse_stock, stock),
     b"upgrade": (3, (), (), parse_upgrade, upgrade),
     b"chain": (1, (), (), vendor.parse_book, chain),
+    b"list": (1, (), (), vendor.parse_book, list_of),
+    b"status": (1, (), (), vendor.parse_book, status),
     b"settle": (1, (), (), vendor.parse_book, settle),
     b"serve": (3, (b"--door",), (), vendor.parse_serve, serve),
 }
@@ -219,4 +230,6 @@ OPERATIONS = {
     b"stock": (MOST_INPUT, lambda house, order, lines: add_stock(house, order.vendor, lines)),
     b"upgrade": (None, lambda house, order, _: upgrade_vendor(house, order.vendor, order.start)),
     b"chain": (None, lambda house, order, _: chained(house)),
+    b"list": (None, lambda house, order, _: looking.account_lines(house)),
+    b"status": (None, lambda house, order, _: looking.broker_status(house)),
 }

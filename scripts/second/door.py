@@ -38,9 +38,10 @@ class DoorServer(Server):
             pass
 
     def send(self, head, line):
-        """Sends the head of an answer, and then its line."""
+        """Sends the head of an answer, and then its line, where it has one."""
         self.stage.send(head)
-        self.stage.send(line)
+        if line:
+            self.stage.send(line)
 
 
 def read_told(told):

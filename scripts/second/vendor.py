@@ -1,6 +1,7 @@
 """The commands of a vendor."""
 from types import SimpleNamespace
 
+import looking
 import play
 import settlement
 from forms import MOST_VALUE, digest_of, is_name, is_target
@@ -196,6 +197,14 @@ def chain(order, stage):
     return chained(kept(stage))
 
 
+def list_of(order, stage):
+    return looking.goods_lines(kept(stage))
+
+
+def status(order, stage):
+    return looking.vendor_status(kept(stage))
+
+
 # Of each command, how many words it has, its options with a value and those without one, and what reads and does it.
 COMMANDS = {
     b"once": (5, (), (), parse_once, once),
@@ -208,6 +217,8 @@ COMMANDS = {
     b"mint": (4, (), (), parse_mint, mint),
     b"upgrade": (3, (), (), parse_upgrade, upgrade),
     b"chain": (1, (), (), parse_book, chain),
+    b"list": (1, (), (), parse_book, list_of),
+    b"status": (1, (), (), parse_book, status),
     b"statement": (3, (), (), parse_statement, statement),
 }
 
@@ -220,4 +231,6 @@ OPERATIONS = {
     b"mint": (None, lambda house, order, _: mint_pieces(house, order)),
     b"upgrade": (None, lambda house, order, _: move_issuer(house, order)),
     b"chain": (None, lambda house, order, _: chained(house)),
+    b"list": (None, lambda house, order, _: looking.goods_lines(house)),
+    b"status": (None, lambda house, order, _: looking.vendor_status(house)),
 }

@@ -87,6 +87,7 @@ def commands(out):
         ("price", "shop", (), "run vendor price b /news/1 24", 6, again),
         ("licence", "shop", (), "run vendor licence b 2 4096 8192 $fives $threes", 6, again),
         ("mint", "shop", (), "run vendor mint b 2 50 m1", 6, again),
+        ("status", "shop", (), "run vendor status b", 2, again),
         ("serve, a paid request", "shop", ("link $pays",), "run vendor serve b l:80 1", 6, again),
         ("serve, a repeat", "paid_shop", ("link $pays",), "run vendor serve b l:80 1", 2, again),
         ("serve, two requests on a link", "shop", ("link $pays+$pays60",), "run vendor serve b l:80 1", 10, again)]

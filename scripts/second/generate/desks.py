@@ -74,6 +74,7 @@ ORDERS = [
     ("a deposit that stands", "$f_rich", (), "run broker deposit b ann 1000 d1", 2, 1),
     ("withdraw", "$f_rich", (), "run broker withdraw b ann 400 w1", 6, 1),
     ("balance", "$f_rich", (), "run broker balance b ann", 2, 1),
+    ("status", "$f_rich", (), "run broker status b", 2, 1),
     ("licence", "$f_rich", ("link $f_licence[:20] $f_licence[20:]",), "run broker licence b", 6, 5),
     ("stock", "$f_rich", ("link $f_line $f_line2",), "run broker stock b shop.example", 6, 5),
     ("serve, a draw", "$f_rich", ("link $f_draw",), "run broker serve b l:80 1", 6, 5),
@@ -196,7 +197,7 @@ class Desk:
         elif deed < 4:
             self.move()
         elif deed == 4:
-            self.run("broker balance b " + self.numbers.of(("ann", "bob", "cid")))
+            self.run("broker " + self.numbers.of(("balance b ann", "balance b bob", "balance b cid", "list b", "list b", "status b")))
         elif deed < 7:
             self.stock()
         elif deed == 7:
@@ -226,7 +227,8 @@ def desks():
             start()
         for _ in range(numbers.between(4, 14)):
             desk.step()
-        out.case("broker's orders %d" % round, *desk.lines, *("run broker balance b " + name for name in KEYS), "lawful", "replay")
+        out.case("broker's orders %d" % round, *desk.lines, "run broker balance b ann", "run broker list b", "run broker status b",
+                 "lawful", "replay")
     for count in (255, 256, 257):
         lines = [piece_line(STOCKED, "shop.example", 1 + serial % 3, STOCKED.identity(NOW, serial)) for serial in range(count)]
         out.case("stock of %d lines" % count, "book $f_rich", "clock 1000000", "link " + " ".join(lines),

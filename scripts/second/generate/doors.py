@@ -35,10 +35,11 @@ def word_bytes(word):
 
 # Each operator's command, with what it is refused for, one after another over one book: its words, its input, and the time.
 VENDORS = [
-    ("vendor price /news/1 30", None, NOW), ("vendor goods /news/1 25 --kind 1", '"Good morning.\\n"', NOW),
+    ("vendor list", None, NOW), ("vendor status", None, NOW), ("vendor price /news/1 30", None, NOW), ("vendor goods /news/1 25 --kind 1", '"Good morning.\\n"', NOW),
     ("vendor goods /news/2 7", "x00ff0a0d*99", NOW), ("vendor goods /empty 7", None, NOW),
     ("vendor goods /big 7 --kind=2", '"x"*65536', NOW), ("vendor goods /big 8", '"x"*65537', NOW),
-    ("vendor price /news/1 30", None, NOW), ("vendor price /news/1 30", None, NOW + 1),
+    ("vendor price /news/1 30", None, NOW), ("vendor price /news/1 30", None, NOW + 1), ("vendor list", None, NOW),
+    ("vendor status", None, 0), ("vendor list", '"more"', NOW),
     ("vendor licence 2 4096 8192 $fives $mixed", None, NOW), ("vendor licence 2 4096 8192 $fives $mixed", None, NOW),
     ("vendor licence 2 4096 8192 $fives $fives", None, NOW), ("vendor licence 1 4096 8192 $threes $fours", None, NOW),
     ("vendor mint 2 50 m1", None, NOW), ("vendor mint 2 50 m1", None, NOW + 600), ("vendor mint 3 50 m1", None, NOW),
@@ -47,16 +48,18 @@ VENDORS = [
     ("vendor upgrade 0 245", None, NOW), ("vendor upgrade 9 245", None, NOW), ("vendor mint 2 50 m1", None, LATE),
     ("vendor mint 2 50 m3", None, LATE), ("vendor chain", None, LATE), ("vendor chain", None, LATE + 1),
     ("vendor mint 2 50 m4", None, LATE), ("vendor price /news/1 31", None, 0), ("vendor chain", None, LATE),
+    ("vendor list", None, LATE), ("vendor status", None, LATE), ("vendor list --kind 1", None, LATE), ("vendor status more", None, LATE),
     ("vendor price /news/1 0", None, LATE), ("vendor price news 5", None, LATE), ("vendor price /news/1", None, LATE),
     ("vendor nonsense", None, LATE), ("vendor goods /news/1 25 --kind 3", '"x"', LATE),
 ]
 LINES = [piece_line(STOCKED, "shop.example", 50 + serial, STOCKED.identity(NOW, serial)) for serial in range(3)]
 BROKERS = [
-    ("broker balance ann", None, NOW), ("broker deposit ann 1 r0", None, NOW), ("broker account ann " + key_word("ann"), None, NOW),
+    ("broker list", None, NOW), ("broker status", None, NOW), ("broker balance ann", None, NOW), ("broker deposit ann 1 r0", None, NOW), ("broker account ann " + key_word("ann"), None, NOW),
     ("broker account ann " + key_word("ann"), None, NOW + 1), ("broker account ann " + key_word("bob"), None, NOW),
     ("broker balance ann", None, NOW), ("broker deposit ann 1000 r1", None, NOW), ("broker deposit ann 1000 r1", None, NOW),
     ("broker deposit ann 5 r1", None, NOW), ("broker withdraw ann 1000 r1", None, NOW), ("broker withdraw ann 1 r2", None, NOW),
     ("broker withdraw ann 5000 r3", None, NOW), ("broker withdraw bob 1 r4", None, NOW), ("broker balance ann", None, NOW),
+    ("broker list", None, NOW), ("broker status", '"more"', NOW),
     ("broker licence", licence_line("news.example", ONE), NOW), ("broker licence", licence_line("news.example", ONE), NOW),
     ("broker licence", licence_line("news.example", STOCKED), NOW), ("broker licence", licence_line("news.example", ONE) + '+"x"', NOW),
     ("broker licence", None, NOW), ("broker stock shop.example", "+".join(LINES[:2]), NOW),
@@ -66,6 +69,7 @@ BROKERS = [
     ("broker upgrade news.example 245", None, NOW), ("broker upgrade news.example 246", None, NOW),
     ("broker upgrade bank 244", None, NOW), ("broker upgrade bank 245", None, NOW), ("broker upgrade none.example 245", None, NOW),
     ("broker chain", None, NOW), ("broker chain", None, NOW), ("broker deposit ann 2 r5", None, 0), ("broker chain", None, LATE),
+    ("broker list", None, 0), ("broker status", None, LATE), ("broker list ann", None, LATE), ("broker status --json", None, LATE),
     ("broker balance zoe", None, LATE), ("broker balance Zoe", None, LATE), ("broker deposit ann 0 r6", None, LATE),
     ("broker stock", '"x"', LATE), ("broker nonsense", None, LATE),
 ]
@@ -108,11 +112,13 @@ ORDERS = [
     ("chain", "$paid_shop", ("door " + told("vendor chain"),), AT_DOOR % ("vendor", 1), 7, 6),
     ("upgrade", "$shop", ("door " + told("vendor upgrade 1 245"),), AT_DOOR % ("vendor", 1), 6, 6),
     ("bad words", "$shop", ('door "0 vendor\\n"',), AT_DOOR % ("vendor", 1), 2, 6),
+    ("status", "$shop", ("door " + told("vendor status"),), AT_DOOR % ("vendor", 1), 2, 6),
     ("a payment and a price", "$shop", ("link $pays", "door " + told("vendor price /news/1 30")), AT_DOOR % ("vendor", 2), 10, 10),
 ]
 DESKS = [
     ("account", "$f_bank", ("door " + told("broker account ann " + key_word("ann")),), AT_DOOR % ("broker", 1), 6, 6),
     ("stock", "$f_rich", ("door " + told("broker stock shop.example", "+".join(LINES[:2])),), AT_DOOR % ("broker", 1), 6, 6),
+    ("list", "$f_rich", ("door " + told("broker list"),), AT_DOOR % ("broker", 1), 2, 6),
     ("a withdrawal that is refused", "$f_rich", ("door " + told("broker withdraw ann 1001 w1"),), AT_DOOR % ("broker", 1), 2, 6),
     ("a draw and a withdrawal", "$f_rich", ("link $f_draw", "door " + told("broker withdraw ann 700 w1")), AT_DOOR % ("broker", 2), 10, 10),
 ]
@@ -148,7 +154,7 @@ class Shop(Mixed):
     """A vendor's."""
 
     def command(self):
-        numbers, order = self.numbers, self.numbers.below(16)
+        numbers, order = self.numbers, self.numbers.below(18)
         target, price = numbers.of(("/news/1", "/news/1", "/news/2", "/")), numbers.of((1, 24, 25, 25, 30, 2**40))
         if order < 4:
             kind = numbers.of(("", " --kind 1", " --kind=2", " --kind 4"))
@@ -163,9 +169,12 @@ class Shop(Mixed):
             self.tell("vendor upgrade %d %d" % (numbers.of((0, 1, 2)), numbers.of((244, 245, 246))))
         elif order == 13:
             self.tell("vendor chain")
+        elif order < 16:
+            self.tell("vendor " + numbers.of(("list", "status")))
         else:
             self.tell(*numbers.of((("broker balance ann",), ("broker stock shop.example", '"x"'), ("vendor statement 1 244",),
-                                   ("broker settle",), ("vendor serve l:80 1",), ("wallet list",), ("broker deposit ann 0 r1",))))
+                                   ("broker settle",), ("vendor serve l:80 1",), ("wallet list",), ("broker deposit ann 0 r1",),
+                                   ("broker list",), ("broker status",))))
 
     def link(self):
         heads = ["$pays", "$unpaid", "$pays60", "$pays_exact", "$pays_minted", "$pays2", "$get2+$e", "$head1"]
@@ -194,7 +203,7 @@ def shops(out):
             lines.append(AT_DOOR % ("vendor", len(shop.links)) + numbers.of(("", "", "x")))
             if fails == 0:
                 lines.append("crash %d" % numbers.of((0, 1, 2, 7, 128)))
-        out.case("a vendor's links %d" % round, *lines, "lawful", "replay")
+        out.case("a vendor's links %d" % round, *lines, "run vendor list b", "run vendor status b", "lawful", "replay")
 
 
 class Bank(Desk):
@@ -253,7 +262,7 @@ def banks(out):
             bank.step()
         bank.run("broker chain b")
         bank.serve()
-        out.case("a broker's links %d" % round, *bank.lines, *("run broker balance b " + name for name in ("ann", "bob")), "lawful", "replay")
+        out.case("a broker's links %d" % round, *bank.lines, "run broker list b", "run broker status b", "lawful", "replay")
 
 
 def main():

@@ -15,6 +15,7 @@ def faults():
         ("price", "$shop", (), "run vendor price b /news/1 24", 6, 1),
         ("licence", "$shop", (), "run vendor licence b 2 4096 8192 $fives $threes", 6, 1),
         ("mint", "$shop", (), "run vendor mint b 2 50 m1", 6, 1),
+        ("list", "$shop", (), "run vendor list b", 2, 1),
         ("serve, a paid request", "$shop", ("link $pays",), "run vendor serve b l:80 1", 6, 5),
         ("serve, a repeat", "$paid_shop", ("link $pays",), "run vendor serve b l:80 1", 2, 5),
         ("serve, a refused request", "$paid_shop", ("link $pays2",), "run vendor serve b l:80 1", 2, 5),
@@ -569,7 +570,7 @@ def operators():
         if numbers.below(6) == 0:
             lines += ["fail disk %d" % numbers.below(7), "run vendor mint b 2 50 last",
                       "crash %d" % numbers.of((0, 1, 2, 128))]
-        lines += [*serving, "clock %d" % time, "run vendor serve b l:80 4", "replay"]
+        lines += [*serving, "clock %d" % time, "run vendor serve b l:80 4", "run vendor list b", "run vendor status b", "replay"]
         out.case("orders %d" % round, *lines)
     out.write("operators")
 
