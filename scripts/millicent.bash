@@ -7,8 +7,8 @@ _millicent() {
         role=${COMP_WORDS[2]-} command= at=2 first=4
     fi
     case $role in
-        vendor) commands='init goods price licence mint serve once play upgrade chain statement' ;;
-        broker) commands='init account deposit withdraw balance licence stock serve upgrade chain settle' ;;
+        vendor) commands='init goods price licence mint serve once play upgrade chain list status statement' ;;
+        broker) commands='init account deposit withdraw balance licence stock serve upgrade chain list status settle' ;;
         wallet) commands='init take draw buy get retry list lines chain proxy renew' ;;
         audit) commands='report chain tree' ;;
     esac
@@ -21,6 +21,8 @@ _millicent() {
         'vendor serve') options='--door' books=1 ;;
         'vendor upgrade') books=1 ;;
         'vendor chain') books=1 ;;
+        'vendor list') books=1 ;;
+        'vendor status') books=1 ;;
         'vendor statement') books=1 ;;
         'broker init') options='--keep --clear' books=1 ;;
         'broker account') books=1 ;;
@@ -32,6 +34,8 @@ _millicent() {
         'broker serve') options='--door' books=1 ;;
         'broker upgrade') books=1 ;;
         'broker chain') books=1 ;;
+        'broker list') books=1 ;;
+        'broker status') books=1 ;;
         'broker settle') books=1 ;;
         'wallet init') books=1 ;;
         'wallet take') books=1 ;;
