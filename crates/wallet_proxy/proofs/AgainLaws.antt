@@ -83,7 +83,7 @@ refusal_is f g is = cc
 
 missed_untold : (limits : Limits) (s : ProxyState) (e : Entry) (f : Refusal) (t : ProxyState) → StaysKept f → Misses limits s e (refusal f) t → ⊥
 missed_untold limits s e f t stays (inl x, same) = full_alone e _ _ _ f (x.1 ∙ ap (λ (g : Refusal). Err (Refuse g)) (sym (refusal_is f x.0 x.2))) stays
-missed_untold limits s e f t stays (inr told, same) = subst StaysKept (refusal_is f NoMemory told) stays
+missed_untold limits s e f t stays (inr wants, same) = subst StaysKept (refusal_is f NoMemory wants.1) stays
 
 settled_untold : (r : Received) (f : Refusal) → refusal f ≡ settled_told r → StaysKept f → ⊥
 settled_untold r f is stays = go (r.status == 200) is

@@ -1,5 +1,5 @@
 -- Where the disk fails under a request, it was not sent.
-use Rattle.std.proofs.Common.{◌≡◌, ◌⊎◌, inl, inr, ℕ, ◌+◌, ◌≤◌, Bool, true, false, cond, List, [], ◌∷◌, ◌++◌, length, refl, sym, ap, ◌∙◌, subst, arith, Option, Some, Result, Ok, Err}
+use Rattle.std.proofs.Common.{◌≡◌, inl, inr, ℕ, ◌+◌, ◌≤◌, Bool, true, false, cond, List, [], ◌∷◌, ◌++◌, length, refl, sym, ap, ◌∙◌, subst, arith, Option, Result, Ok, Err}
 use Rattle.std.specs.Prelude.{◌==◌, ◌||◌, IsTrue, is_some, option_and_then}
 use Rattle.scrip_form.specs.Scrip.{Scrip}
 use Rattle.mc_outside.specs.LinkView.{LinkView}
@@ -11,10 +11,8 @@ use Rattle.wallet_model.specs.Requests.{Pending}
 use Rattle.wallet_model.specs.Settling.{settlement}
 use Rattle.mc_requests.specs.Requests.{Asked}
 use Rattle.ledger_model.specs.Pieces.{piece_of}
-use Rattle.wallet_model.specs.Asks.{Offered}
-use Rattle.wallet_model.specs.Settling.{check_of}
 use Rattle.wallet_model.specs.Follows.{IsWalletBook}
-use Rattle.wallet_proxy.specs.Proxy.{ProxyState, Bounds, Payment, again, anew, scrip_value, paid_by, payment_for, with_entry, get_entry, get_with, DoubtsBy, TriesInDoubt}
+use Rattle.wallet_proxy.specs.Proxy.{ProxyState, Bounds, Payment, again, anew, scrip_value, payment_for, with_entry, get_entry, get_with, DoubtsBy, TriesInDoubt}
 use Rattle.wallet_proxy.specs.Laws.{is_request, is_settling, IsOneGet, price_told}
 use Rattle.wallet_proxy.proofs.ChoiceLaws.{chosen_has, chosen_value, get_pays}
 use Rattle.wallet_proxy.proofs.StepLaws.{settles, paid_few, payment_so, kept_so, anew_so, one_settling}

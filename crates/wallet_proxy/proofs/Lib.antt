@@ -10,7 +10,8 @@ pub mod SettleLemmas
 pub mod PayLemmas
 pub mod ItemLemmas
 pub mod LinkLemmas
-pub mod ProxiedLemmas
-pub mod EndLemmas
 pub mod DoubtLaws
 pub mod TargetLaws
+pub mod RunLaws
+pub mod ProxiedLemmas
+pub mod EndLemmas

@@ -1,5 +1,5 @@
 -- How serving links by the wallet of a book ends.
-use Rattle.std.proofs.Common.{◌≤◌, ◌≡◌, ◌⊎◌, inl, inr, ℕ, List, [], ◌∷◌, ◌++◌, refl, sym, ap, ◌∙◌, subst, arith, Err}
+use Rattle.std.proofs.Common.{◌≤◌, ◌≡◌, ◌⊎◌, inl, inr, ℕ, ◌+◌, List, [], ◌∷◌, ◌++◌, length, refl, sym, ap, ◌∙◌, subst, arith, Err}
 use Rattle.std.specs.Prelude.{Bool, IsTrue, IsSome, is_some}
 use Rattle.mc_outside.specs.Bytes.{Rose}
 use Rattle.mc_outside.specs.DiskView.{DiskView, OnlyRead, Ran}
@@ -26,6 +26,8 @@ use Rattle.wallet_proxy.specs.declared.links.ProxyOut.{ProxyOut}
 use Rattle.wallet_proxy.specs.declared.links.ProxyOut.TheVariants as outs
 use Rattle.wallet_proxy.specs.Proxy.{ProxyState, history_of, Bounds, ProxyStep}
 use Rattle.wallet_proxy.specs.Links.{now, state_at, Went, InDoubtLinks, ServesLinks, ServedEnough, LeftAlone, HaveCauses, proxied_outside}
+use Rattle.wallet_proxy.specs.Laws.{IsSound}
+use Rattle.wallet_proxy.proofs.RunLaws.{Goes, all_goes, links_goes, Doubted, links_doubt}
 use Rattle.wallet_proxy.specs.Proxying.{proxied_status, EncodesState, ProxyPair, ProxiedFrom, ProxiesLinksOf, ProxyCauses}
 
 -- ---- causes
@@ -64,20 +66,26 @@ read_then_moved tells a b c s steps read moved =
     ran_then a b c (ProxyPair tells a s steps) (ran_weaker a b _ _ read.ran (λ i x p. inl p))
     (subst (λ (l : List ℕ). Ran b c (λ i x. (a.leaves i × (x ≡ a.aside)) ⊎ InOrder history_of tells s l steps i x)) read.aside (ran_weaker b c _ _ moved.ran (λ i x o. inr o)))
 
+-- the state of the wallet that was opened is sound
+opened_sound : {O : Type 0} (disk : O → DiskView) (bounds : Bounds) (bytes : List ℕ) (x : WalletView O) (up : LinkView) (at : OpenedFor disk FULL bytes x) → IsSound bounds (state_at at.history (now x 0 up))
+opened_sound disk bounds bytes x up at = record { lawful = at.wallet.book.lawful; in_time = at.wallet.book.in_time; within = omega arith }
+
 -- the state of the wallet that was opened
 encodes_state : {O : Type 0} (disk : O → DiskView) (bytes : List ℕ) (x : WalletView O) (up : LinkView) (at : OpenedFor disk FULL bytes x) → EncodesState bytes up (state_at at.history (now x 0 up))
 encodes_state disk bytes x up at = record { stands = at.of_bytes; lawful = at.wallet.book.lawful; time' = at.time'; nothing = refl; up' = refl }
 
 proxied_from : {O : Type 0} (link : O → LinkView) (disk : O → DiskView) (bounds : Bounds) (bytes : List ℕ) (a : O) (x y : WalletView O) (paid : ℕ) (up now_up : LinkView) (steps : List (Did ProxyState)) (at : OpenedFor disk FULL bytes x)
     → OnlyRead (disk a) (disk x.journal.disk) → link x.journal.disk ≡ link a → Went link disk bounds.budget x.journal.disk (state_at at.history (now x 0 up)) steps (now y paid now_up)
-    → ProxiedFrom link disk bounds.budget bytes a y.journal.disk up now_up (state_at at.history (now x 0 up)) steps
-proxied_from link disk bounds bytes a x y paid up now_up steps at read same went =
+    → Goes bounds (length steps) (state_at at.history (now x 0 up)) (state_after (state_at at.history (now x 0 up)) steps)
+    → ProxiedFrom link disk bounds bytes a y.journal.disk up now_up (state_at at.history (now x 0 up)) steps
+proxied_from link disk bounds bytes a x y paid up now_up steps at read same went goes =
     let s : ProxyState = state_at at.history (now x 0 up) in
     record {
       encoded = encodes_state disk bytes x up at;
       left = on_disk disk y (state_after s steps).history went.stands.book;
       within = went.stands.within;
       up' = went.stands.up';
+      asks = goes.asks;
       pairs = read_then_moved (IsSome (link a).sessions) (disk a) (disk x.journal.disk) (disk y.journal.disk) s steps read
           (subst (λ (v : LinkView). MovedBy history_of (IsSome v.sessions) (disk x.journal.disk) (disk y.journal.disk) s steps) same went.moved);
     }
@@ -96,24 +104,28 @@ proxies_book {O = O} link disk vendor limit budget links bytes a x up now_up out
     s : ProxyState
     s = state_at at.history (now x 0 up)
 
+    sound : IsSound bounds s
+    sound = opened_sound disk bounds bytes x up at
+
     go : (r : ProxyOut O) → ServesLinks link disk bounds links x.journal.disk s now_up r → ProxiesLinksOf link disk bounds links bytes a up (proxied_status r) now_up (proxied_outside r)
     go (outs.Done y n paid) by = (
       s,
       by.0,
-      proxied_from link disk bounds bytes a x y paid up now_up by.0 at read same by.1,
+      proxied_from link disk bounds bytes a x y paid up now_up by.0 at read same by.1 (all_goes bounds links n by.0 s (link x.journal.disk) (link y.journal.disk) sound by.2),
       by.1.stands.paid',
       subst (λ (v : LinkView). ServedAll (ProxyStep bounds) OfLinks links n by.0 s v (link y.journal.disk)) same by.2,
     )
     go (outs.Link y) by = (
       s,
       by.0,
-      proxied_from link disk bounds bytes a x y by.1 up now_up by.0 at read same by.2,
+      proxied_from link disk bounds bytes a x y by.1 up now_up by.0 at read same by.2 (links_goes bounds by.3.n by.0 s (link x.journal.disk) by.3.between sound by.3.links_had),
       subst (λ (v : LinkView). ServedSome (ProxyStep bounds) OfLinks links by.0 s v (link y.journal.disk)) same by.3,
     )
     go (outs.NoMemory y) by = (subst (λ (d : O). Untouched link disk a d) (sym by.0) (record { link' = same; read = read }), by.2)
     go (outs.Halted d) by =
         let halted = by.4 in
         let tells : Type 0 = IsSome (link a).sessions in
+        let doubted : Doubted bounds (length by.0 + 1) s (state_after s by.0) by.1 by.2 now_up = links_doubt bounds links by.0 s (link x.journal.disk) by.1 by.2 now_up by.3 (link d) sound by.5 in
         let until : MovedBy history_of tells (disk x.journal.disk) (disk halted.taken) s by.0 =
         subst (λ (v : LinkView). MovedBy history_of (IsSome v.sessions) (disk x.journal.disk) (disk halted.taken) s by.0) same halted.until in
         let alike : is_some (link halted.taken).sessions ≡ is_some (link a).sessions = halted.tells ∙ ap (λ (v : LinkView). is_some v.sessions) same in (
@@ -125,6 +137,9 @@ proxies_book {O = O} link disk vendor limit budget links bytes a x up now_up out
           record {
             encoded = encodes_state disk bytes x up at;
             leaves = halted.halts.leaves;
+            lawful = doubted.lawful;
+            within = doubted.within;
+            asks = doubted.asks;
             taken = halted.taken;
             quiet = halted.quiet ∙ calm;
             aside = λ told'. until.aside told' ∙ ap (λ (l : List ℕ). l ++ sent_of by.0) read.aside;

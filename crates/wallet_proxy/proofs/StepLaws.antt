@@ -162,7 +162,7 @@ settled_is r price bytes is = go (r.status == 200) refl is
 -- an entry that was not made pays for nothing
 missed : (limits : Limits) (s : ProxyState) (e : Entry) (price : ℕ) (bytes : List ℕ) (t : ProxyState) → Misses limits s e (contents price bytes) t → IsPaidFor price bytes t
 missed limits s e price bytes t (inl x, same) = absurd (let told = x.2 in cc)
-missed limits s e price bytes t (inr told, same) = absurd cc
+missed limits s e price bytes t (inr wants, same) = absurd (let told = wants.1 in cc)
 
 settles_paid : (limits : Limits) (s : ProxyState) (n : ℕ) (p : Pending) (r : Received) (o : Option Refusal) (price : ℕ) (bytes : List ℕ) (t : ProxyState) → check_of p r ≡ o → SettlesBy limits s n p r o (contents price bytes) t → IsPaidFor price bytes t
 settles_paid limits s n p r (Some f) price bytes t is by = absurd cc

@@ -1,5 +1,5 @@
 -- What is sent to the vendor and told to the browser is asked for by the item.
-use Rattle.std.proofs.Common.{◌≡◌, ◌⊎◌, inl, inr, ℕ, Bool, true, false, cond, List, [], ◌∷◌, ◌++◌, length, refl, sym, ap, ◌∙◌, subst, Option, Some, None, unwrap_or, Result, Ok, Err}
+use Rattle.std.proofs.Common.{◌≡◌, ◌⊎◌, inl, inr, ℕ, Bool, List, [], ◌∷◌, ◌++◌, length, refl, sym, ap, ◌∙◌, subst, Option, Some, None, unwrap_or, Result, Ok, Err}
 use Rattle.std.specs.Prelude.{◌==◌, ◌&&◌, IsTrue, bytes_eq, option_and_then}
 use Rattle.std.proofs.lemmas.Bool.{eqb-true, and_parts}
 use Rattle.std.proofs.lemmas.Slice.Eq.{bytes_eq-Decides}
@@ -14,17 +14,17 @@ use Rattle.millicent_http.specs.Received.{Received}
 use Rattle.millicent_http.specs.Items.{request}
 use Rattle.wallet_model.specs.Requests.{Pending, pending_in, pending_of, kept_requests, kept_get}
 use Rattle.wallet_model.specs.Asks.{request_bytes}
-use Rattle.wallet_model.specs.Settling.{check_of, price_of, settlement}
+use Rattle.wallet_model.specs.Settling.{check_of, settlement}
 use Rattle.wallet_book.proofs.HoldingLaws.{get_last}
-use Rattle.wallet_proxy.specs.Told.{Told, refusal, contents}
+use Rattle.wallet_proxy.specs.Told.{Told, contents}
 use Rattle.wallet_proxy.specs.Upstream.{Fetches}
-use Rattle.wallet_proxy.specs.Proxy.{ProxyState, Bounds, Payment, again, anew, payment_for, get_entry, get_with, with_entry, with_up, settled_told, settled_state, Tries, CameOf, SettlesBy, PaysBy, Tells, Misses}
+use Rattle.wallet_proxy.specs.Proxy.{ProxyState, Bounds, Payment, again, anew, payment_for, get_entry, get_with, with_entry, with_up, Tries, CameOf, SettlesBy, PaysBy, Tells, Misses}
 use Rattle.wallet_proxy.specs.Laws.{is_settling, IsGetOf, AsksOnlyFor, IsBroughtFor}
 use Rattle.wallet_proxy.proofs.ChoiceLaws.{get_is, pending_before}
 use Rattle.wallet_proxy.proofs.StepLaws.{came_grows, came_up, payment_so, kept_so, settled_is, has_price}
 
 -- a kept get of a target is one
-kept_of : (b : Bounds) (h : History) (target : List ℕ) (x : ℕ × Pending) → kept_get h b.vendor target ≡ Some x → IsGetOf b target x.1
+pub kept_of : (b : Bounds) (h : History) (target : List ℕ) (x : ℕ × Pending) → kept_get h b.vendor target ≡ Some x → IsGetOf b target x.1
 kept_of b h target x is =
     let passes = found_passes (λ (y : ℕ × Pending). y.1.ask == 0 && (bytes_eq y.1.peer b.vendor && bytes_eq y.1.target target)) (kept_requests h) x is in
     let rest = and_parts (x.1.ask == 0) _ passes in
@@ -68,7 +68,7 @@ item_asks_for b s q closes told t by = pays_for b s q (payment_for b s q) told t
 
 missed_none : {A : Type 0} (limits : Limits) (s : ProxyState) (e : Entry) (price : ℕ) (bytes : List ℕ) (t : ProxyState) → Misses limits s e (contents price bytes) t → A
 missed_none limits s e price bytes t (inl x, same) = absurd (let told = x.2 in cc)
-missed_none limits s e price bytes t (inr told, same) = absurd cc
+missed_none limits s e price bytes t (inr wants, same) = absurd (let told = wants.1 in cc)
 
 brought : (b : Bounds) (limits : Limits) (target : List ℕ) (s u t : ProxyState) (n : ℕ) (p : Pending) (price : ℕ) (bytes : List ℕ) → u.up ≡ s.up → pending_in u.history n ≡ Some p → IsGetOf b target p
     → Tries limits u n p (contents price bytes) t → IsBroughtFor b target price bytes s t

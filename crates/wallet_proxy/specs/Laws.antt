@@ -1,13 +1,17 @@
 -- What the steps of a proxy promise, in its user's words.
 use Rattle.std.specs.Prelude.{◌≡◌, ◌⊎◌, ◌≤◌, ℕ, ◌+◌, ◌==◌, ◌||◌, Bool, true, false, IsTrue, List, [], ◌∷◌, ◌++◌, length, sum_by, count_by, Some, None, Result, Ok}
+use Rattle.std.specs.List.{AllByRecursion}
+use Rattle.mc_outside.specs.LinkView.{LinkView}
 use Rattle.mc_requests.specs.declared.refusal.Refusal.{Refusal}
 use Rattle.mc_requests.specs.declared.refusal.Refusal.TheVariants.{NoLink, NoReply, BadReply, Unproved, UpstreamFault}
 use Rattle.mc_records.specs.Entry.{Entry, Pend, Done, Refused}
-use Rattle.ledger_model.specs.Histories.{History}
+use Rattle.ledger_model.specs.Histories.{History, time}
 use Rattle.millicent_http.specs.Received.{Received}
 use Rattle.wallet_model.specs.Requests.{Pending, pending_in, kept_get}
 use Rattle.wallet_model.specs.Asks.{request_bytes}
 use Rattle.wallet_model.specs.Settling.{check_of, settlement, price_of}
+use Rattle.wallet_model.specs.Follows.{IsWalletBook}
+use Rattle.wallet_book.specs.Kept.{kept_in}
 use Rattle.wallet_proxy.specs.Upstream.{Fetches}
 use Rattle.wallet_proxy.specs.Proxy.{ProxyState, Bounds}
 
@@ -139,3 +143,41 @@ pub record Keeps (items : ℕ) (s t : ProxyState) : Type 0 where
   pub requests : count_by is_request added ≤ items
   pub settlements : count_by is_settling added ≤ items
   pub others : length added ≤ count_by is_request added + count_by is_settling added
+
+-- The book is lawful, the time is not before its entries, and what was paid is within the budget.
+pub record IsSound (b : Bounds) (s : ProxyState) : Type 0 where
+  pub lawful : IsWalletBook s.history
+  pub in_time : time s.history ≤ s.time
+  pub within : s.paid ≤ b.budget
+
+-- one use of the vendor's links: for the request of the entry of this number, and what came of it
+pub record Use : Type 0 where
+  pub n : ℕ
+  pub request : Pending
+  pub came : Result Received Refusal
+
+-- From some links to the vendor to others by these uses, a link for each, one after another, and by nothing else.
+abbrev pub AreUsed : List Use → LinkView → LinkView → Type 0
+AreUsed [] before after = after ≡ before
+AreUsed (u ∷ us) before after = (between : LinkView) × Fetches (request_bytes u.request) u.came before between × AreUsed us between after
+
+-- What was sent is a get at the vendor by an entry of the book, which was made or was found there: it stood there, and was not
+-- settled, when it was sent.
+pub record IsOfBook (b : Bounds) (h : History) (u : Use) : Type 0 where
+  pub get : u.request.ask ≡ 0
+  pub peer' : u.request.peer ≡ b.vendor
+  pub before : History
+  pub rest : History
+  pub book : h ≡ before ++ rest
+  pub kept : kept_in before u.n ≡ Some u.request
+
+-- Nothing was done to the vendor's links but to send him such requests, at most so many, one link for each.
+pub record AsksNoMore (b : Bounds) (most : ℕ) (s t : ProxyState) : Type 0 where
+  pub uses : List Use
+  pub used : AreUsed uses s.up t.up
+  pub few : length uses ≤ most
+  pub entries : AllByRecursion (IsOfBook b t.history) uses
+
+-- the state of a proxy whose disk failed: so many entries were added, and the links to the vendor are these
+abbrev pub stopped_at : ProxyState → History → LinkView → ProxyState
+stopped_at s added up = record s { history = s.history ++ added; up = up }

@@ -1,5 +1,5 @@
 -- What serving links by the wallet of a book does, up to the line that is said.
-use Rattle.std.specs.Prelude.{◌≡◌, ◌⊎◌, ℕ, ◌<◌, ◌≤◌, IsTrue, IsSome, List, [], ◌∷◌, ◌++◌}
+use Rattle.std.specs.Prelude.{◌≡◌, ◌⊎◌, ℕ, ◌+◌, ◌<◌, ◌≤◌, IsTrue, IsSome, List, [], ◌∷◌, ◌++◌, length}
 use Rattle.mc_outside.specs.Bytes.{Rose}
 use Rattle.mc_outside.specs.DiskView.{DiskView, Ran}
 use Rattle.mc_outside.specs.LinkView.{LinkView}
@@ -19,6 +19,7 @@ use Rattle.link_turns.specs.Orders.{InOrder, IsEither, InDoubt}
 use Rattle.wallet_proxy.specs.declared.links.ProxyOut.{ProxyOut}
 use Rattle.wallet_proxy.specs.declared.links.ProxyOut.TheVariants as outs
 use Rattle.wallet_proxy.specs.Proxy.{ProxyState, history_of, Bounds, ProxyStep}
+use Rattle.wallet_proxy.specs.Laws.{spent, AsksNoMore, stopped_at}
 use Rattle.wallet_proxy.specs.Links.{InDoubtLinks}
 
 -- how it ends by what served the links
@@ -42,19 +43,26 @@ abbrev pub ProxyPair : Type 0 → DiskView → ProxyState → List (Did ProxySta
 ProxyPair tells before s steps image sent = (before.leaves image × (sent ≡ before.aside)) ⊎ InOrder history_of tells s before.aside steps image sent
 
 -- From the history that the book encoded these steps led to the one that the disk encodes, which is lawful; what was paid is
--- within the budget, the links to the vendor are those of the last state, and each crash pair is in order.
-pub record ProxiedFrom {O : Type 0} (link : O → LinkView) (disk : O → DiskView) (budget : ℕ) (bytes : List ℕ) (a b : O) (up now_up : LinkView) (s : ProxyState) (steps : List (Did ProxyState)) : Type 0 where
+-- within the budget. The links to the vendor are those of the last state: nothing was sent to him but requests of the book, at most
+-- one for each step. Each crash pair is in order.
+pub record ProxiedFrom {O : Type 0} (link : O → LinkView) (disk : O → DiskView) (bounds : Bounds) (bytes : List ℕ) (a b : O) (up now_up : LinkView) (s : ProxyState) (steps : List (Did ProxyState)) : Type 0 where
   pub encoded : EncodesState bytes up s
   pub left : EncodesWallet (disk b) (state_after s steps).history
-  pub within : (state_after s steps).paid ≤ budget
+  pub within : (state_after s steps).paid ≤ bounds.budget
   pub up' : now_up ≡ (state_after s steps).up
+  pub asks : AsksNoMore bounds (length steps) s (state_after s steps)
   pub pairs : Ran (disk a) (disk b) (ProxyPair (IsSome (link a).sessions) (disk a) s steps)
 
 -- After these steps a request was taken, and up to that moment the disk had not failed and each crash pair is in order. Then
--- these entries were added, the disk failed while the next one was written, and so much of the refusal was sent.
-pub record HaltedFrom {O : Type 0} (link : O → LinkView) (disk : O → DiskView) (bytes : List ℕ) (a b : O) (up : LinkView) (s : ProxyState) (steps : List (Did ProxyState)) (added : List Entry) (e : Entry) (said : List ℕ) : Type 0 where
+-- these entries were added, the disk failed while the next one was written, and so much of the refusal was sent. The book with
+-- them and with the one in doubt is lawful; what was paid, with what they say was paid, is within the budget; and nothing was sent to
+-- the vendor but requests of the book, at most one for each step and one for that request.
+pub record HaltedFrom {O : Type 0} (link : O → LinkView) (disk : O → DiskView) (bounds : Bounds) (bytes : List ℕ) (a b : O) (up now_up : LinkView) (s : ProxyState) (steps : List (Did ProxyState)) (added : List Entry) (e : Entry) (said : List ℕ) : Type 0 where
   pub encoded : EncodesState bytes up s
   pub leaves : (image : List ℕ) → (disk b).leaves image → IsEither ((state_after s steps).history ++ added) e image
+  pub lawful : IsWalletBook ((state_after s steps).history ++ (added ++ e ∷ []))
+  pub within : (state_after s steps).paid + spent (added ++ e ∷ []) ≤ bounds.budget
+  pub asks : AsksNoMore bounds (length steps + 1) s (stopped_at (state_after s steps) added now_up)
   pub taken : O
   pub quiet : (disk taken).faults ≡ (disk a).faults
   pub aside : IsSome (link a).sessions → (disk taken).aside ≡ (disk a).aside ++ sent_of steps
@@ -65,14 +73,14 @@ pub record HaltedFrom {O : Type 0} (link : O → LinkView) (disk : O → DiskVie
 -- how the links of a book that was opened as that of a wallet were served
 abbrev pub ProxiesLinksOf : {O : Type 0} → (O → LinkView) → (O → DiskView) → Bounds → ℕ → List ℕ → O → LinkView → Status → LinkView → O → Type 0
 ProxiesLinksOf link disk bounds links bytes a up (ends.Proxied n paid) now_up b =
-    (s : ProxyState) × (steps : List (Did ProxyState)) × ProxiedFrom link disk bounds.budget bytes a b up now_up s steps
+    (s : ProxyState) × (steps : List (Did ProxyState)) × ProxiedFrom link disk bounds bytes a b up now_up s steps
     × (paid ≡ (state_after s steps).paid) × ServedAll (ProxyStep bounds) OfLinks links n steps s (link a) (link b)
 ProxiesLinksOf link disk bounds links bytes a up ends.LinkFault now_up b =
-    (s : ProxyState) × (steps : List (Did ProxyState)) × ProxiedFrom link disk bounds.budget bytes a b up now_up s steps
+    (s : ProxyState) × (steps : List (Did ProxyState)) × ProxiedFrom link disk bounds bytes a b up now_up s steps
     × ServedSome (ProxyStep bounds) OfLinks links steps s (link a) (link b)
 ProxiesLinksOf link disk bounds links bytes a up ends.DiskFault now_up b =
     (s : ProxyState) × (steps : List (Did ProxyState)) × (added : List Entry) × (e : Entry) × (said : List ℕ)
-    × HaltedFrom link disk bytes a b up s steps added e said × InDoubtLinks bounds links steps s (link a) added e now_up said (link b)
+    × HaltedFrom link disk bounds bytes a b up now_up s steps added e said × InDoubtLinks bounds links steps s (link a) added e now_up said (link b)
 ProxiesLinksOf link disk bounds links bytes a up ends.NoMemory now_up b = Untouched link disk a b × (now_up ≡ up)
 ProxiesLinksOf link disk bounds links bytes a up _ now_up b = ⊥
 

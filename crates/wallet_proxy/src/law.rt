@@ -11,7 +11,7 @@ ghost use Rattle.wallet_model.specs.Requests.{Pending, kept_get};
 ghost use Rattle.wallet_model.specs.Follows.{IsWalletBook};
 ghost use Rattle.wallet_proxy.specs.Told.{Told, refusal, contents};
 ghost use Rattle.wallet_proxy.specs.Proxy.{ProxyState, Bounds, Payment, raised, Tells, ProxyStep, DoubtsBy, payment_for};
-ghost use Rattle.wallet_proxy.specs.Laws.{is_request, AsksOnlyFor, IsBroughtFor, IsOneGet, price_told, Grows, IsPaidFor, MovesUp, PaysAsBooked, StaysKept, IsKept, SettlesAtMost, Keeps};
+ghost use Rattle.wallet_proxy.specs.Laws.{is_request, AsksOnlyFor, IsBroughtFor, IsOneGet, price_told, IsSound, AsksNoMore, stopped_at, Grows, IsPaidFor, MovesUp, PaysAsBooked, StaysKept, IsKept, SettlesAtMost, Keeps};
 
 /// Whatever is told to an item: the wallet's book goes on by at most one request and one settlement. What is told as paid
 /// for is what a rightly signed reply brought, and its Done entry is the last one. What is paid rises by what the Done
@@ -59,7 +59,8 @@ pub fn a_run_pays_as_booked()
 
 /// Where the disk fails while an entry of an item is written: if it is its request, none was added before it, and nothing was
 /// done to the links to the vendor, so that no byte of it was sent. The item has one request and one settlement at most, the one
-/// in doubt among them; and what was paid stays within the budget with the price in doubt.
+/// in doubt among them; and what was paid stays within the budget with the price in doubt. The book is lawful with the entry in
+/// doubt, and to the vendor went at most the request of one entry before it.
 pub fn what_is_in_doubt()
     ensures unsent { (b : Bounds) (s : ProxyState) (target : List ℕ) (x : Result Payment Refusal) (added : List Entry) (e : Entry) (up : LinkView)
         → DoubtsBy b s target x added e up → is_request e ≡ true → (added ≡ []) × (up ≡ s.up) }
@@ -68,6 +69,12 @@ pub fn what_is_in_doubt()
     ensures within { (b : Bounds) (s : ProxyState) (q : Asked) (added : List Entry) (e : Entry) (up : LinkView)
         → IsWalletBook s.history → DoubtsBy b s q.target (payment_for b s q) added e up → s.paid ≤ b.budget
         → s.paid + price_told e ≤ b.budget }
+    ensures lawful { (b : Bounds) (s : ProxyState) (q : Asked) (added : List Entry) (e : Entry) (up : LinkView)
+        → IsSound b s → DoubtsBy b s q.target (payment_for b s q) added e up
+        → IsWalletBook (s.history ++ (added ++ e ∷ [])) }
+    ensures asks { (b : Bounds) (s : ProxyState) (q : Asked) (added : List Entry) (e : Entry) (up : LinkView)
+        → IsSound b s → DoubtsBy b s q.target (payment_for b s q) added e up
+        → AsksNoMore b 1 s (stopped_at s added up) }
 {}
 
 /// What is done to the vendor's links for a request is asked for by it: at most the get of its own target at the vendor is sent,
@@ -77,4 +84,16 @@ pub fn what_is_asked_is_sent_and_told()
         → Tells b s (request q closes) told t → (t.up ≡ s.up) ⊎ AsksOnlyFor b q.target s t }
     ensures told { (b : Bounds) (s : ProxyState) (q : Asked) (closes : Bool) (price : ℕ) (bytes : List ℕ) (t : ProxyState)
         → Tells b s (request q closes) (contents price bytes) t → IsBroughtFor b q.target price bytes s t }
+{}
+
+/// A run is sound from a sound state on: the book stays lawful, and what was paid stays within the budget. In it nothing else is
+/// sent to the vendor than gets whose Pend entries stand in the book, made or found there and not settled by then: at most one for
+/// each step, each on a link of its own.
+pub fn a_run_asks_no_more()
+    ensures sound { (b : Bounds) (s : ProxyState) (items : List Item) (readings : List ℕ)
+        (steps : List (Did ProxyState)) → IsSound b s → Run (ProxyStep b) s items readings steps
+        → IsSound b (state_after s steps) }
+    ensures asks { (b : Bounds) (s : ProxyState) (items : List Item) (readings : List ℕ)
+        (steps : List (Did ProxyState)) → IsSound b s → Run (ProxyStep b) s items readings steps
+        → AsksNoMore b (length steps) s (state_after s steps) }
 {}

@@ -14,8 +14,8 @@ mod turn;
 mod upstream;
 
 pub use law::{
-    a_run_pays_as_booked, an_item_pays_once, what_is_asked_is_sent_and_told, what_is_in_doubt,
-    what_is_kept_is_paid_once,
+    a_run_asks_no_more, a_run_pays_as_booked, an_item_pays_once, what_is_asked_is_sent_and_told,
+    what_is_in_doubt, what_is_kept_is_paid_once,
 };
 pub use links::{ProxyOut, proxy_links};
 pub use serving::serve_wallet;

@@ -70,8 +70,8 @@ returns-in-NoMemory-clause-asked g c h o st is few most =
     let target : List ℕ = c.args.target.now in
     let same = g.met.O.Outside.disk_keeps _ _ c.in-NoMemory.ensures.back.moved' in
     let made = subst (λ (r : Result Offered Refusal). Performs g.O.Disk.disk w h (paid_with w.book.time 0 a.vendor target r) (TellsNumber h) (outs.NoMemory y)) is (c.in-NoMemory.ensures.exact h st) in
-    let was = made.adds in
-    ask_missed g.O.Link.link g.O.Disk.disk g.met.O.Outside.sent_aside a.budget c.args.after (bounds_of a w.book.limits) h o target w c.args.paid.now (g.U.Link.link c.args.up.now) st refl refl y z c.refuse-in-NoMemory.result.1 (refusal NoMemory) (omega (arith, few)) (inr refl, refl) was
+    let was = made.adds.1 in
+    ask_missed g.O.Link.link g.O.Disk.disk g.met.O.Outside.sent_aside a.budget c.args.after (bounds_of a w.book.limits) h o target w c.args.paid.now (g.U.Link.link c.args.up.now) st refl refl y z c.refuse-in-NoMemory.result.1 (refusal NoMemory) (omega (arith, few)) (inr (made.adds.0, refl), refl) was
     (record {
       is_link = g.met.O.Link.is_link y.journal.disk;
       standing = subst (λ (v : LinkView). IsTrue v.stands) (sym same) c.requires.stands;

@@ -95,8 +95,8 @@ returns-in-NoMemory-clause-settled g c h p up budget st kept can =
     let pass = passed (check_of p r) c.args.number p r c.in-Ok.checked (c.in-Ok.ensures.exact h p st kept) in
     let same = g.met.O.Outside.disk_keeps _ _ c.in-NoMemory.ensures.back.moved' in
     let done = subst (λ (v : CheckedView). Performs g.O.Disk.disk w h (Ok (settlement h w.book.time v.number v.request v.reply)) (λ e s. IsSettledAs v.request v.reply s) (outs.NoMemory y)) pass.1 (c.in-NoMemory.ensures.exact h st) in
-    let was = done.adds in
-    settle_not g.O.Link.link g.O.Disk.disk g.met.O.Outside.sent_aside budget c.args.after h c.args.number p r w c.args.paid.now up st kept can y z c.refuse-in-NoMemory.result.1 (refusal NoMemory) None pass.0 (inr (inr refl, refl)) was
+    let was = done.adds.1 in
+    settle_not g.O.Link.link g.O.Disk.disk g.met.O.Outside.sent_aside budget c.args.after h c.args.number p r w c.args.paid.now up st kept can y z c.refuse-in-NoMemory.result.1 (refusal NoMemory) None pass.0 (inr (inr (done.adds.0, refl), refl)) was
     (record {
       is_link = g.met.O.Link.is_link y.journal.disk;
       standing = subst (λ (v : LinkView). IsTrue v.stands) (sym same) c.requires.stands;
