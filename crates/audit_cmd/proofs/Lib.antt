@@ -10,13 +10,3 @@ pub mod ChainLaws
 pub mod FoundLaws
 pub mod ReportLaws
 pub mod ToldChains
-pub mod MarkLaws
-pub mod LicenceLaws
-pub mod HandedLaws
-pub mod JudgeLaws
-pub mod DeskLaws
-pub mod CheckLaws
-pub mod NameLaws
-pub mod TotalLaws
-pub mod SortLaws
-pub mod AuditLaws

@@ -11,7 +11,7 @@ use Rattle.audit_model.specs.declared.sums.Report.{Report}
 use Rattle.wallet_model.specs.Follows.{is_wallet}
 use Rattle.audit_search.specs.Audit.{Audited}
 use Rattle.relay_core.specs.declared.tree.Tree.{Tree}
-use Rattle.audit_cmd.specs.Audit.{TreeAudited}
+use Rattle.tree_search.specs.Audit.{TreeAudited}
 use Rattle.audit_search.specs.declared.fault.BooksFault.{BooksFault}
 use Rattle.audit_search.specs.declared.fault.BooksFault.TheVariants as founds
 use Rattle.audit_cmd.specs.declared.fault.AuditFault.{AuditFault}

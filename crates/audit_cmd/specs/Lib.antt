@@ -6,12 +6,3 @@ pub mod Places
 pub mod Loops
 pub mod Chains
 pub mod Reports
-pub mod Marks
-pub mod Desks
-pub mod Handed
-pub mod Verdicts
-pub mod Checks
-pub mod Rows
-pub mod Names
-pub mod Totals
-pub mod Audit

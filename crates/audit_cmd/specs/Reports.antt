@@ -17,7 +17,7 @@ use Rattle.relay_core.specs.Text.{tree_text}
 use Rattle.audit_search.specs.declared.fault.BooksFault.{BooksFault}
 use Rattle.audit_search.specs.declared.fault.BooksFault.TheVariants as founds
 use Rattle.audit_search.specs.Audit.{Audited}
-use Rattle.audit_cmd.specs.Audit.{TreeAudited}
+use Rattle.tree_search.specs.Audit.{TreeAudited}
 use Rattle.audit_cmd.specs.declared.fault.AuditFault.{AuditFault}
 use Rattle.audit_cmd.specs.declared.fault.AuditFault.TheVariants as faults
 use Rattle.audit_cmd.specs.Reading.{IsSpoiledFrom, IsUnchainedFrom, IsUnlawfulFrom}

@@ -8,10 +8,10 @@ ghost use Rattle.audit_cmd.specs.Loops.{KeptOf};
 
 use crate::books::{Kept, read_books};
 use crate::fault::{AuditFault, of_books};
-use crate::tree_books::audit_tree_books;
 use mc_outside::Disk;
 use relay_core::Tree;
 use std::alloc::Global;
+use tree_search::audit_tree_books;
 
 /// Audits the books of brokers and of vendors that the disks have: the sums of each beside the others, which balance, and what
 /// was sold on, or why there are none. All disks come back, in their order.

@@ -42,7 +42,7 @@ use Rattle.audit_cmd.specs.Reports.{AreCalm, report_lines}
 use Rattle.mc_requests.specs.declared.limits.TheConstants.Limits.{FULL}
 use Rattle.audit_search.specs.Audit.{Audited}
 use Rattle.relay_core.specs.Text.{tree_text}
-use Rattle.audit_cmd.specs.Audit.{TreeAudited}
+use Rattle.tree_search.specs.Audit.{TreeAudited}
 
 -- a call that failed is seen at the end
 rose_at_end : (a b c : ℕ) (line : List ℕ) (v w : LinkView) (whole : Bool) → b ≡ v.faults → c ≡ w.faults → Says line whole v w → Rose a b → Rose a c

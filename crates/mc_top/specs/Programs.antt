@@ -39,7 +39,7 @@ use Rattle.mc_requests.specs.declared.limits.TheConstants.Limits.{FULL}
 use Rattle.ledger_model.specs.Histories.{History}
 use Rattle.audit_search.specs.declared.fault.BooksFault.{BooksFault}
 use Rattle.audit_search.specs.Audit.{Audited}
-use Rattle.audit_cmd.specs.Audit.{TreeAudited}
+use Rattle.tree_search.specs.Audit.{TreeAudited}
 use Rattle.audit_cmd.specs.Books.{AreTold, IsLawfulBook, AreAuditedBy}
 use Rattle.audit_cmd.specs.Reports.{RefusesBy, ReportsBooks, ReportsTree, ReportCauses, TellsChains, ChainCauses, AreCalm, EndsReport, EndsChains}
 use Rattle.mc_words.specs.Commands.{AreWords}

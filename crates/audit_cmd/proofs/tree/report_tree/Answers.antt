@@ -1,5 +1,5 @@
 use Rattle.mc_requests.specs.declared.limits.TheConstants.Limits.{FULL}
-use Rattle.audit_cmd.specs.Audit.{TreeAudited}
+use Rattle.tree_search.specs.Audit.{TreeAudited}
 use Rattle.relay_core.specs.Text.{tree_text}
 use Rattle.audit_cmd.proofs.ReportLaws.{found_words, found_causes, found_reports, found_ends}
 use Rattle.audit_cmd.proofs.tree.report_tree.Goals as goal

@@ -2,7 +2,7 @@ use Rattle.std.proofs.Common.{List, subst}
 use Rattle.std.specs.Prelude.{length}
 use Rattle.mc_requests.specs.declared.limits.TheConstants.Limits.{FULL}
 use Rattle.relay_core.specs.declared.tree.Tree.{Tree}
-use Rattle.audit_cmd.specs.Audit.{TreeAudited}
+use Rattle.tree_search.specs.Audit.{TreeAudited}
 use Rattle.audit_cmd.specs.Books.{IsLawfulBook, AreTold, decided_by}
 use Rattle.audit_cmd.proofs.Deciding.{all_decide, told_decide, decided_by_all, told_so}
 use Rattle.audit_cmd.proofs.LawfulLaws.{halt_found, none_faulty, no_halt}

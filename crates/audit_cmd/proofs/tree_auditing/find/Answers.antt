@@ -4,7 +4,7 @@ use Rattle.mc_requests.specs.declared.limits.TheConstants.Limits.{FULL}
 use Rattle.audit_sums.specs.declared.audit_sums.BookSums.{BookSums}
 use Rattle.audit_search.specs.Audit.{AreLearned, NamesBook}
 use Rattle.relay_core.specs.declared.tree.Tree.{Tree}
-use Rattle.audit_cmd.specs.Audit.{TreeAudited}
+use Rattle.tree_search.specs.Audit.{TreeAudited}
 use Rattle.audit_cmd.specs.declared.fault.AuditFault.{AuditFault}
 use Rattle.audit_cmd.specs.Books.{FindsTree, CountsBy, IsOfAll, told_book}
 use Rattle.audit_cmd.proofs.FoundLaws.{fault_found, fault_calm, fault_of_all, fault_place, kept_audited}

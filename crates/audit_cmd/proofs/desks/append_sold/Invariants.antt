@@ -1,6 +1,0 @@
-use Rattle.std.proofs.Common.{◌≡◌, ◌++◌, drop}
-use Rattle.audit_cmd.specs.Desks.{sold_at_desks}
-use Rattle.audit_cmd.proofs.desks.append_sold.Given as goal
-
-abbrev pub invariant-loop-desk : goal.invariant-loop-desk
-invariant-loop-desk l = l.parts.items ++ sold_at_desks (drop l.desk-index l.desks) l.name ≡ l.fn.parts.items ++ sold_at_desks l.desks l.name

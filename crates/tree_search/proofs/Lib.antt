@@ -1,0 +1,10 @@
+pub mod MarkLaws
+pub mod LicenceLaws
+pub mod HandedLaws
+pub mod JudgeLaws
+pub mod DeskLaws
+pub mod CheckLaws
+pub mod NameLaws
+pub mod TotalLaws
+pub mod SortLaws
+pub mod AuditLaws

@@ -1,0 +1,9 @@
+pub mod Marks
+pub mod Desks
+pub mod Handed
+pub mod Verdicts
+pub mod Checks
+pub mod Rows
+pub mod Names
+pub mod Totals
+pub mod Audit
