@@ -2,13 +2,14 @@
 use Rattle.std.proofs.Common.{◌≡◌, ◌+◌, inl, inr, true, ℕ, List, [], ◌∷◌, ◌++◌, length, Err, refl, sym, subst, arith}
 use Rattle.std.specs.Global.{Vec}
 use Rattle.std.specs.List.{AllZip, AllByRecursion}
+use Rattle.mc_outside.specs.Bytes.{BeginsWith}
 use Rattle.mc_outside.specs.DiskView.{DiskView}
 use Rattle.mc_records.specs.Entry.{Entry, Site}
 use Rattle.mc_records.specs.Sizes.{size}
 use Rattle.mc_records.specs.Chains.{chain}
 use Rattle.ledger_model.specs.Histories.{History}
 use Rattle.ledger_model.specs.Houses.{site_name}
-use Rattle.scrip_journal.specs.Layout.{Encodes}
+use Rattle.scrip_journal.specs.Layout.{header, Encodes}
 use Rattle.scrip_journal.specs.Causes.{IsOfOtherKind, BeginsWithEntries, IsUnlawfulAt}
 use Rattle.scrip_journal.specs.declared.fault.HouseFault.{HouseFault}
 use Rattle.scrip_journal.specs.declared.fault.HouseFault.TheVariants.{NotJournal, BadRecord, BadChain, Unlawful, WrongKind, NotEmpty, Disk, NoMemory}
@@ -21,10 +22,9 @@ use Rattle.audit_cmd.specs.declared.chain_reading.ChainLine.{ChainLine}
 use Rattle.audit_cmd.specs.declared.fault.AuditFault.{AuditFault}
 use Rattle.audit_cmd.specs.declared.fault.AuditFault.TheVariants as faults
 use Rattle.audit_cmd.specs.Notes.{site_first}
-use Rattle.audit_cmd.specs.Books.{AreTold, IsHistoryOf, IsLawfulBook, IsOfLawful}
-use Rattle.audit_cmd.specs.Chains.{BeginsAs, AnyKind, KnowsSite, chain_reader, IsLineOf, HasLine, HasNoSite, ReadsChain, ChainsOf}
-use Rattle.audit_cmd.proofs.Zips.{at_place}
-use Rattle.audit_cmd.proofs.LawfulLaws.{lawful_begins, encodes}
+use Rattle.audit_cmd.specs.Books.{AreTold, IsHistoryOf, IsLawfulBook, FaultOfFirst, IsOfLawful}
+use Rattle.audit_cmd.specs.Chains.{BeginsAs, AnyKind, KnowsSite, chain_reader, IsLineOf, HasLine, SpoilsChain, BreaksChain, HasNoSite, chain_causes, ReadsChain}
+use Rattle.audit_cmd.proofs.LawfulLaws.{lawful_begins, encodes, first_told}
 
 -- ---- what is learned
 
@@ -59,12 +59,6 @@ chain_fault view bytes (Disk d) opens = tt
 chain_fault view bytes (NoMemory d) opens = tt
 
 -- ---- lines
-
-pub all_have_lines : (books : List (List ℕ)) (lines : List ChainLine) → AllZip IsLineOf books lines → AllByRecursion HasLine books
-all_have_lines [] [] are = tt
-all_have_lines [] (l ∷ ls) are = absurd are
-all_have_lines (b ∷ bs) [] are = absurd are
-all_have_lines (b ∷ bs) (l ∷ ls) are = ((l, are.0), all_have_lines bs ls are.1)
 
 -- no books have no lines
 pub no_lines : {D : Type 0} (view : D → DiskView) (books : List (List ℕ)) (lines : List ChainLine) → lines ≡ [] → AreTold view [] books → AllZip IsLineOf books lines
@@ -104,21 +98,22 @@ has_a_site (e ∷ es) bytes place st site (first, inr (f, begins, other)) =
     other (subst (λ (x : Entry). IsSite x) is site)
 
 -- and no fault in its bytes
-pub lined_halt : (books : List (List ℕ)) (fault : AuditFault) → ChainsOf books (Err fault) → AllByRecursion HasLine books → IsOfLawful {A = Vec ChainLine} (Err fault)
-lined_halt books (faults.NotJournal book) finds all =
-    let line = at_place HasLine books book finds.bytes all finds.there in
-    finds.cause (lawful_begins line.1.history finds.bytes line.1.of_bytes)
-lined_halt books (faults.BadRecord book place) finds all =
-    let line = at_place HasLine books book finds.bytes all finds.there in
-    not_both finds.cause.before line.1.history finds.bytes place finds.cause.reads line.1.of_bytes
-lined_halt books (faults.BadChain book place stood computed) finds all =
-    let line = at_place HasLine books book finds.bytes all finds.there in
-    chain_or_history finds.cause.before line.1.history finds.bytes place stood computed finds.cause.reads line.1.of_bytes
-lined_halt books (faults.Unlawful book place) finds all =
-    let line = at_place HasLine books book finds.bytes all finds.there in
-    has_a_site line.1.history finds.bytes place line.1.of_bytes line.1.site finds.cause
-lined_halt books (faults.Disk book) finds all = tt
-lined_halt books faults.BadBooks finds all = tt
-lined_halt books (faults.MissingBook name) finds all = tt
-lined_halt books (faults.Stranger book name id) finds all = tt
-lined_halt books faults.NoMemory finds all = tt
+module _ {D : Type 0} (view : D → DiskView) (disks : List D) (books : List (List ℕ)) (told : AreTold view disks books) where
+  pub lined_halt : (fault : AuditFault) → FaultOfFirst view chain_causes HasLine disks fault → AllByRecursion HasLine books → IsOfLawful {A = Vec ChainLine} (Err fault)
+  lined_halt (faults.NotJournal book) first all =
+      let b = first_told view disks books told HasLine book (λ bytes. BeginsWith header bytes → ⊥) first all in
+      b.cause (lawful_begins b.read.1.history b.bytes b.read.1.of_bytes)
+  lined_halt (faults.BadRecord book place) first all =
+      let b = first_told view disks books told HasLine book (λ bytes. SpoilsChain bytes place) first all in
+      not_both b.cause.before b.read.1.history b.bytes place b.cause.reads b.read.1.of_bytes
+  lined_halt (faults.BadChain book place stood computed) first all =
+      let b = first_told view disks books told HasLine book (λ bytes. BreaksChain bytes place stood computed) first all in
+      chain_or_history b.cause.before b.read.1.history b.bytes place stood computed b.cause.reads b.read.1.of_bytes
+  lined_halt (faults.Unlawful book place) first all =
+      let b = first_told view disks books told HasLine book (λ bytes. HasNoSite bytes place) first all in
+      has_a_site b.read.1.history b.bytes place b.read.1.of_bytes b.read.1.site b.cause
+  lined_halt (faults.Disk book) first all = tt
+  lined_halt faults.BadBooks first all = tt
+  lined_halt (faults.MissingBook name) first all = tt
+  lined_halt (faults.Stranger book name id) first all = tt
+  lined_halt faults.NoMemory first all = tt

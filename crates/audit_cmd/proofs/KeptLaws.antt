@@ -1,6 +1,6 @@
 -- What is kept of books that were read as lawful ones.
-use Rattle.std.proofs.Common.{◌≡◌, inl, inr, ℕ, Bool, true, false, ◌||◌, List, [], ◌∷◌, ◌++◌, None, refl, sym, ap, ◌∙◌, subst}
-use Rattle.std.specs.List.{AllZip, AllByRecursion, list_any}
+use Rattle.std.proofs.Common.{◌≡◌, inl, inr, ℕ, Bool, true, false, ◌||◌, List, [], ◌∷◌, ◌++◌, Option, Some, None, refl, sym, ap, ◌∙◌, subst}
+use Rattle.std.specs.List.{AllZip, list_any}
 use Rattle.mc_outside.specs.DiskView.{DiskView}
 use Rattle.mc_records.specs.Entry.{Entry, Site}
 use Rattle.mc_requests.specs.declared.limits.TheConstants.Limits.{FULL}
@@ -41,18 +41,8 @@ book_is_wallet (e ∷ es) lawful = first_is_wallet e es lawful.0.allowed
 
 -- ---- lawful books
 
-lawful_zip : (xs : List (List ℕ)) (hs : List History) → AllZip IsHistoryOf xs hs → AllByRecursion IsLawfulBook xs
-lawful_zip [] [] stand = tt
-lawful_zip [] (h ∷ hs) stand = absurd stand
-lawful_zip (x ∷ xs) [] stand = absurd stand
-lawful_zip (x ∷ xs) (h ∷ hs) stand = ((h, stand.0), lawful_zip xs hs stand.1)
-
 houses_zip : (xs : List (List ℕ)) (hs : List History) → AllZip IsHousesHistory xs hs → AllZip IsHistoryOf xs hs
 houses_zip xs hs stand = zip_weaker IsHousesHistory IsHistoryOf (λ x h is. inl is) xs hs stand
-
-pub all_lawful : (xs : List (List ℕ)) (wallet : Bool) (ss : List BookSums) → KeptOf xs wallet ss → AllByRecursion IsLawfulBook xs
-all_lawful xs true ss kept = lawful_zip xs kept.histories kept.stand
-all_lawful xs false ss kept = lawful_zip xs kept.histories (houses_zip xs kept.histories kept.stand)
 
 -- ---- one more
 
@@ -64,6 +54,11 @@ learned_more (t ∷ ts) (g ∷ gs) s h all one = (all.0, learned_more ts gs s h 
 
 houses_history : (x : List ℕ) (s : BookSums) (is : ReadsAs x s) → IsHousesHistory x is.history
 houses_history x s is = record { of_bytes = is.of_bytes; lawful = is.learned.lawful }
+
+-- a book of which this is kept is lawful
+pub kept_lawful : (x : List ℕ) (read : Option BookSums) → IsKeptOf x read → IsLawfulBook x
+kept_lawful x (Some s) is = (is.history, inl (houses_history x s is))
+kept_lawful x None is = (is.0, inr is.1)
 
 pub house_more : (xs : List (List ℕ)) (wallet : Bool) (ss : List BookSums) (x : List ℕ) (s : BookSums) → KeptOf xs wallet ss → ReadsAs x s → KeptOf (xs ++ x ∷ []) wallet (ss ++ s ∷ [])
 house_more xs true ss x s kept is = record {

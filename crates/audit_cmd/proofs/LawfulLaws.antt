@@ -1,8 +1,9 @@
 -- A lawful book has no fault.
-use Rattle.std.proofs.Common.{◌≡◌, ◌⊎◌, inl, inr, true, ℕ, List, [], ◌∷◌, ◌++◌, sym, ◌∙◌, subst, arith, append-nil, append_assoc, Ok, Err, Result}
+use Rattle.std.proofs.Common.{◌≡◌, ◌⊎◌, inl, inr, true, ℕ, List, [], ◌∷◌, ◌++◌, sym, ◌∙◌, subst, arith, append-nil, append_assoc, Some, Ok, Err, Result}
 use Rattle.std.proofs.lemmas.Bool.{eqb-true}
 use Rattle.std.specs.List.{AllByRecursion}
 use Rattle.mc_outside.specs.Bytes.{BeginsWith}
+use Rattle.mc_outside.specs.DiskView.{DiskView}
 use Rattle.mc_records.specs.Entry.{Entry, Site}
 use Rattle.mc_records.specs.Following.{AllFollowBy}
 use Rattle.mc_requests.specs.declared.limits.TheConstants.Limits.{FULL}
@@ -18,10 +19,9 @@ use Rattle.audit_search.specs.declared.fault.BooksFault.{BooksFault}
 use Rattle.audit_cmd.specs.declared.fault.AuditFault.{AuditFault}
 use Rattle.audit_cmd.specs.declared.fault.AuditFault.TheVariants as faults
 use Rattle.audit_cmd.specs.Notes.{site_first}
-use Rattle.audit_cmd.specs.Reading.{IsSpoiledFrom, IsUnchainedFrom, IsUnlawfulFrom}
-use Rattle.audit_cmd.specs.Books.{IsHistoryOf, IsLawfulBook, IsFirst, FindsBy, IsOfLawful}
-use Rattle.audit_cmd.specs.Loops.{AuditsAll}
-use Rattle.audit_cmd.proofs.Zips.{at_place}
+use Rattle.audit_cmd.specs.Reading.{IsSpoiledFrom, IsUnchainedFrom, IsUnlawfulFrom, audit_causes}
+use Rattle.audit_cmd.specs.Books.{AreTold, IsHistoryOf, IsLawfulBook, IsFirst, FaultOfFirst, FirstDecides, FindsBy, EndsReading, IsOfLawful}
+use Rattle.audit_cmd.proofs.Zips.{zip_at, at_place}
 
 -- it begins with the header
 pub lawful_begins : (h : History) (bytes : List ℕ) → Encodes h bytes → BeginsWith header bytes
@@ -94,32 +94,50 @@ encodes h bytes (inr wallet) = wallet.of_bytes
 
 -- ---- of lawful books
 
-first_lawful : (books : List (List ℕ)) (book : ℕ) (Cause : List ℕ → Type 0) → AllByRecursion IsLawfulBook books → (first : IsFirst books book Cause) → IsLawfulBook first.bytes
-first_lawful books book Cause all first = at_place IsLawfulBook books book first.bytes all first.there
+-- what ends the reading is found of no others
+pub halt_found : {R : Type 0} (Audits : List History → Result R BooksFault → Type 0) (books : List (List ℕ)) (Is : ℕ → Type 0) (fault : AuditFault) → EndsReading Is fault → FindsBy Audits books (Err fault)
+halt_found Audits books Is (faults.NotJournal book) ended = tt
+halt_found Audits books Is (faults.BadRecord book place) ended = tt
+halt_found Audits books Is (faults.BadChain book place stood computed) ended = tt
+halt_found Audits books Is (faults.Unlawful book place) ended = tt
+halt_found Audits books Is (faults.Disk book) ended = tt
+halt_found Audits books Is faults.BadBooks ended = absurd ended
+halt_found Audits books Is (faults.MissingBook name) ended = absurd ended
+halt_found Audits books Is (faults.Stranger book name id) ended = absurd ended
+halt_found Audits books Is faults.NoMemory ended = tt
 
--- what ends the reading is found
-pub halt_found : {R : Type 0} (Audits : List History → Result R BooksFault → Type 0) (books : List (List ℕ)) (fault : AuditFault) → AuditsAll books (Err fault) → FindsBy Audits books (Err fault)
-halt_found Audits books (faults.NotJournal book) read = read
-halt_found Audits books (faults.BadRecord book place) read = read
-halt_found Audits books (faults.BadChain book place stood computed) read = read
-halt_found Audits books (faults.Unlawful book place) read = read
-halt_found Audits books (faults.Disk book) read = read
-halt_found Audits books faults.BadBooks read = absurd read
-halt_found Audits books (faults.MissingBook name) read = absurd read
-halt_found Audits books (faults.Stranger book name id) read = absurd read
-halt_found Audits books faults.NoMemory read = tt
+-- the bytes of a book of which both is so
+pub record HasBoth (IsRead Cause : List ℕ → Type 0) : Type 0 where
+  pub bytes : List ℕ
+  pub read : IsRead bytes
+  pub cause : Cause bytes
 
-pub none_faulty : {R : Type 0} (Audits : List History → Result R BooksFault → Type 0) (books : List (List ℕ)) (found : Result R AuditFault) → FindsBy Audits books found → AllByRecursion IsLawfulBook books → IsOfLawful found
-none_faulty Audits books (Ok r) finds all = tt
-none_faulty Audits books (Err (faults.NotJournal book)) finds all = let h = first_lawful books book (λ bytes. BeginsWith header bytes → ⊥) all finds in finds.cause (lawful_begins h.0 finds.bytes (encodes h.0 finds.bytes h.1))
-none_faulty Audits books (Err (faults.BadRecord book place)) finds all = let h = first_lawful books book (λ bytes. IsSpoiledFrom bytes place) all finds in not_spoiled h.0 finds.bytes place (encodes h.0 finds.bytes h.1) finds.cause
-none_faulty Audits books (Err (faults.BadChain book place stood computed)) finds all = let h = first_lawful books book (λ bytes. IsUnchainedFrom bytes place stood computed) all finds in not_unchained h.0 finds.bytes place stood computed (encodes h.0 finds.bytes h.1) finds.cause
-none_faulty Audits books (Err (faults.Unlawful book place)) finds all = let h = first_lawful books book (λ bytes. IsUnlawfulFrom bytes place) all finds in not_unlawful h.0 finds.bytes place h.1 finds.cause
-none_faulty Audits books (Err (faults.Disk book)) finds all = tt
-none_faulty Audits books (Err faults.BadBooks) finds all = tt
-none_faulty Audits books (Err (faults.MissingBook name)) finds all = tt
-none_faulty Audits books (Err (faults.Stranger book name id)) finds all = tt
-none_faulty Audits books (Err faults.NoMemory) finds all = tt
+module _ {D : Type 0} (view : D → DiskView) (disks : List D) (books : List (List ℕ)) (told : AreTold view disks books) where
+  -- those of the first that is not read, where all disks tell their bytes
+  pub first_told : (IsRead : List ℕ → Type 0) (book : ℕ) (Cause : List ℕ → Type 0) → IsFirst view IsRead disks book Cause → AllByRecursion IsRead books → HasBoth IsRead Cause
+  first_told IsRead book Cause first all =
+      let at = zip_at (λ d x. (view d).contents ≡ Some x) disks books book first.disk told first.there in
+      record { bytes = at.y; read = at_place IsRead books book at.y all at.there; cause = first.cause at.y at.here }
 
-pub no_halt : {R : Type 0} (Audits : List History → Result R BooksFault → Type 0) (books : List (List ℕ)) (fault : AuditFault) → AuditsAll books (Err fault) → AllByRecursion IsLawfulBook books → IsOfLawful {A = R} (Err fault)
-no_halt Audits books fault read all = none_faulty Audits books (Err fault) (halt_found Audits books fault read) all
+  pub fault_of_lawful : (R : Type 0) (fault : AuditFault) → FaultOfFirst view audit_causes IsLawfulBook disks fault → AllByRecursion IsLawfulBook books → IsOfLawful {A = R} (Err fault)
+  fault_of_lawful R (faults.NotJournal book) first all =
+      let b = first_told IsLawfulBook book (λ bytes. BeginsWith header bytes → ⊥) first all in
+      b.cause (lawful_begins b.read.0 b.bytes (encodes b.read.0 b.bytes b.read.1))
+  fault_of_lawful R (faults.BadRecord book place) first all =
+      let b = first_told IsLawfulBook book (λ bytes. IsSpoiledFrom bytes place) first all in
+      not_spoiled b.read.0 b.bytes place (encodes b.read.0 b.bytes b.read.1) b.cause
+  fault_of_lawful R (faults.BadChain book place stood computed) first all =
+      let b = first_told IsLawfulBook book (λ bytes. IsUnchainedFrom bytes place stood computed) first all in
+      not_unchained b.read.0 b.bytes place stood computed (encodes b.read.0 b.bytes b.read.1) b.cause
+  fault_of_lawful R (faults.Unlawful book place) first all =
+      let b = first_told IsLawfulBook book (λ bytes. IsUnlawfulFrom bytes place) first all in
+      not_unlawful b.read.0 b.bytes place b.read.1 b.cause
+  fault_of_lawful R (faults.Disk book) first all = tt
+  fault_of_lawful R faults.BadBooks first all = tt
+  fault_of_lawful R (faults.MissingBook name) first all = tt
+  fault_of_lawful R (faults.Stranger book name id) first all = tt
+  fault_of_lawful R faults.NoMemory first all = tt
+
+  pub none_faulty : {R : Type 0} (found : Result R AuditFault) → FirstDecides view audit_causes IsLawfulBook disks found → AllByRecursion IsLawfulBook books → IsOfLawful found
+  none_faulty (Ok r) first all = tt
+  none_faulty {R = R} (Err fault) first all = fault_of_lawful R fault first all

@@ -1,18 +1,18 @@
 -- Reading one book after another.
-use Rattle.std.proofs.Common.{◌≡◌, ℕ, suc, ◌+◌, ◌≤◌, List, [], ◌∷◌, ◌++◌, length, take, Some, Ok, Err, refl, sym, ap, ◌∙◌, subst, arith, append-nil, append_assoc, Result}
+use Rattle.std.proofs.Common.{◌≡◌, ℕ, ◌+◌, ◌≤◌, List, [], ◌∷◌, ◌++◌, length, take, Some, Ok, Err, refl, sym, ap, ◌∙◌, subst, arith, append-nil, append_assoc, Result}
 use Rattle.std.proofs.lemmas.List.{length-append}
 use Rattle.std.specs.Prelude.{slice_get, slice_set, map}
-use Rattle.std.specs.List.{AllZip, AllByRecursion}
+use Rattle.std.specs.List.{AllZip}
 use Rattle.mc_outside.specs.Bytes.{BeginsWith, Rose}
 use Rattle.mc_outside.specs.DiskView.{DiskView, OnlyRead}
 use Rattle.scrip_journal.specs.Layout.{header}
 use Rattle.audit_cmd.specs.declared.fault.AuditFault.{AuditFault}
 use Rattle.audit_cmd.specs.declared.fault.AuditFault.TheVariants as faults
-use Rattle.audit_cmd.specs.Books.{AreTold, counts, decided_by, FirstOf, RoseAt, CountsBy}
+use Rattle.audit_cmd.specs.Books.{AreTold, counts, EachRead, IsFirst, FaultOfFirst, RoseAt, CountsBy}
 use Rattle.audit_cmd.specs.OneBook.{Causes}
 use Rattle.audit_cmd.specs.Places.{ReadsAt}
-use Rattle.audit_cmd.specs.Loops.{ReadsAll, IsCalm, AreReadTo, HaveRead}
-use Rattle.audit_cmd.proofs.Zips.{zip_append, zip_more, zip_weaker, zip_long, zip_parted, zip_same, zip_none, zip_maps, map_append, length_map, Comes, comes_at, get_at, set_at, take_at, take_next, none_left}
+use Rattle.audit_cmd.specs.Loops.{IsCalm, AreReadTo, HaveRead}
+use Rattle.audit_cmd.proofs.Zips.{zip_append, zip_more, zip_weaker, zip_long, zip_parted, zip_same, zip_none, zip_maps, map_append, length_map, Comes, comes_at, get_at, set_at, take_at, none_left, all_more}
 
 -- ---- the disks
 
@@ -76,32 +76,23 @@ module _ {D X : Type 0} (view : D → DiskView) (moved : D → D → Type 0) (st
       others = counts_new ∙ sym (set_at (map count to.before) (map count next_at.behind) (count at.old) (count at.new)) ∙ ap (λ (k : ℕ). slice_set (map count to.before ++ count at.old ∷ map count next_at.behind) k (count at.new)) (place_is ∙ sym is) ∙ ap (λ (l : List ℕ). slice_set l book (count at.new)) (sym counts_old);
     }
 
-    -- the books before the next one, and with it
+    -- the books before the next one
     up_to : (book : ℕ) → book ≡ place → take book olds ≡ to.before
     up_to book is = ap (take book) to.olds_are ∙ ap (λ (k : ℕ). take k (to.before ++ to.rest)) (is ∙ sym to.long) ∙ take_at to.before to.rest
 
-    with_next : (book : ℕ) → book ≡ place → take (suc book) olds ≡ to.before ++ at.old ∷ []
-    with_next book is = ap (take (suc book)) old_parts ∙ ap (λ (k : ℕ). take (suc k) (to.before ++ at.old ∷ next_at.behind)) (is ∙ sym to.long) ∙ take_next to.before next_at.behind at.old
-
     -- those before it are read
-    pub read_before : (IsRead : List ℕ → Type 0) (book : ℕ) → book ≡ place → ((xs : List (List ℕ)) → AreTold view to.before xs → AllByRecursion IsRead xs)
-        → (xs : List (List ℕ)) → AreTold view (take book olds) xs → AllByRecursion IsRead xs
-    read_before IsRead book is before_read xs told = before_read xs (subst (λ (l : List D). AreTold view l xs) (up_to book is) told)
+    pub read_before : (IsRead : List ℕ → Type 0) (book : ℕ) → book ≡ place → EachRead view IsRead to.before → EachRead view IsRead (take book olds)
+    read_before IsRead book is each = subst (λ (l : List D). EachRead view IsRead l) (sym (up_to book is)) each
 
     -- and it has its own cause
-    pub first_here : (IsRead : List ℕ → Type 0) (book : ℕ) (Cause : List ℕ → Type 0) → book ≡ place → ((xs : List (List ℕ)) → AreTold view to.before xs → AllByRecursion IsRead xs)
-        → ((x : List ℕ) → (view at.old).contents ≡ Some x → (book ≡ place) × Cause x) → (xs : List (List ℕ)) → AreTold view (take (suc book) olds) xs → FirstOf IsRead xs book Cause
-    first_here IsRead book Cause is before_read here xs told =
-        let R : D → List ℕ → Type 0 = λ d x. (view d).contents ≡ Some x in
-        let p = zip_parted R to.before [] at.old xs (subst (λ (l : List D). AllZip R l xs) (with_next book is) told) in
-        let found = here p.there p.here in
-        let long : length p.front ≡ book = zip_long R to.before p.front p.fronts ∙ to.long ∙ sym is in
-        record {
-          bytes = p.there;
-          there = ap (λ (l : List (List ℕ)). slice_get l book) p.is ∙ ap (λ (k : ℕ). slice_get (p.front ++ p.there ∷ p.back) k) (sym long) ∙ get_at p.front p.back p.there;
-          before = subst (λ (l : List (List ℕ)). AllByRecursion IsRead l) (sym (ap (take book) p.is ∙ ap (λ (k : ℕ). take k (p.front ++ p.there ∷ p.back)) (sym long) ∙ take_at p.front (p.there ∷ p.back))) (before_read p.front p.fronts);
-          cause = found.1;
-        }
+    pub first_here : (IsRead : List ℕ → Type 0) (book : ℕ) (Cause : List ℕ → Type 0) → book ≡ place → EachRead view IsRead to.before
+        → ((x : List ℕ) → (view at.old).contents ≡ Some x → (book ≡ place) × Cause x) → IsFirst view IsRead olds book Cause
+    first_here IsRead book Cause is each here = record {
+      disk = at.old;
+      there = subst (λ (l : List D). slice_get l book ≡ Some at.old) (sym old_parts) (subst (λ (k : ℕ). slice_get (to.before ++ at.old ∷ next_at.behind) k ≡ Some at.old) (to.long ∙ sym is) (get_at to.before next_at.behind at.old));
+      before = read_before IsRead book is each;
+      cause = λ x told. (here x told).1;
+    }
 
 -- ---- when all were read
 
@@ -131,6 +122,9 @@ module _ {D : Type 0} (view : D → DiskView) (moved : D → D → Type 0) where
     pub whole_told : (xs : List (List ℕ)) → AreTold view olds xs → AreTold view to.before xs
     whole_told xs told = subst (λ (l : List D). AreTold view l xs) olds_read told
 
+    pub whole_books : (IsRead : List ℕ → Type 0) → EachRead view IsRead to.before → EachRead view IsRead olds
+    whole_books IsRead each = subst (λ (l : List D). EachRead view IsRead l) (sym olds_read) each
+
 -- one book more
 module _ {D X K : Type 0} (view : D → DiskView) (keeps : List ℕ → X → Type 0) (keeps_all : List (List ℕ) → K → Type 0) where
   told_more : (before : List D) (d : D) (kept kept' : K) (read : X) → ((xs : List (List ℕ)) → AreTold view before xs → keeps_all xs kept)
@@ -142,10 +136,10 @@ module _ {D X K : Type 0} (view : D → DiskView) (keeps : List ℕ → X → Ty
       subst (λ (l : List (List ℕ)). keeps_all l kept') (sym (p.is ∙ ap (λ (l : List (List ℕ)). p.front ++ p.there ∷ l) (zip_none R p.back p.backs))) (more p.front p.there (all p.front p.fronts) (here p.there p.here))
 
 -- what was kept goes on
-module _ {D X K : Type 0} (view : D → DiskView) (moved : D → D → Type 0) (still : (d : D) → OnlyRead (view d) (view d)) (stays : (d : D) → moved d d) (causes : Causes) (keeps : List ℕ → X → Type 0) (keeps_all : List (List ℕ) → K → Type 0) where
-  pub goes_on : (place : ℕ) (olds news afters : List D) (kept kept' : K) (read : X) (has : HaveRead view moved keeps_all place olds news kept) (at : ReadsAt view moved causes keeps place news afters (Ok read))
-      → ((xs : List (List ℕ)) (x : List ℕ) → keeps_all xs kept → keeps x read → keeps_all (xs ++ x ∷ []) kept') → HaveRead view moved keeps_all (place + 1) olds afters kept'
-  goes_on place olds news afters kept kept' read has at more =
+module _ {D X K : Type 0} (view : D → DiskView) (moved : D → D → Type 0) (still : (d : D) → OnlyRead (view d) (view d)) (stays : (d : D) → moved d d) (causes : Causes) (keeps : List ℕ → X → Type 0) (IsRead : List ℕ → Type 0) (keeps_all : List (List ℕ) → K → Type 0) where
+  pub goes_on : (place : ℕ) (olds news afters : List D) (kept kept' : K) (read : X) (has : HaveRead view moved IsRead keeps_all place olds news kept) (at : ReadsAt view moved causes keeps place news afters (Ok read))
+      → ((x : List ℕ) → keeps x read → IsRead x) → ((xs : List (List ℕ)) (x : List ℕ) → keeps_all xs kept → keeps x read → keeps_all (xs ++ x ∷ []) kept') → HaveRead view moved IsRead keeps_all (place + 1) olds afters kept'
+  goes_on place olds news afters kept kept' read has at so more =
       let next = next_at view moved still stays causes keeps place olds news afters (Ok read) has.to at in
       record {
         to = record {
@@ -157,35 +151,31 @@ module _ {D X K : Type 0} (view : D → DiskView) (moved : D → D → Type 0) (
           long = length-append has.to.before (at.old ∷ []) ∙ ap (λ (k : ℕ). k + 1) has.to.long;
           each = zip_more (IsCalm view moved) has.to.before has.to.done at.old at.new has.to.each (record { read = at.read; moves = at.moves; same = at.count });
         };
+        books = all_more (λ d. (x : List ℕ) → (view d).contents ≡ Some x → IsRead x) has.to.before at.old has.books (λ x told. so x (at.told x told));
         told = told_more view keeps keeps_all has.to.before at.old kept kept' read has.told more at.told;
       }
 
 -- why the first book that is not read is not
-module _ {D X K : Type 0} (view : D → DiskView) (moved : D → D → Type 0) (still : (d : D) → OnlyRead (view d) (view d)) (stays : (d : D) → moved d d) (causes : Causes) (keeps : List ℕ → X → Type 0) (keeps_all : List (List ℕ) → K → Type 0) where
+module _ {D X : Type 0} (view : D → DiskView) (moved : D → D → Type 0) (still : (d : D) → OnlyRead (view d) (view d)) (stays : (d : D) → moved d d) (causes : Causes) (keeps : List ℕ → X → Type 0) where
   pub halts : (IsRead : List ℕ → Type 0) (place : ℕ) (olds news afters : List D) (fault : AuditFault) (to : AreReadTo view moved place olds news) → ReadsAt view moved causes keeps place news afters (Err fault)
-      → ((xs : List (List ℕ)) → AreTold view to.before xs → AllByRecursion IsRead xs) → (xs : List (List ℕ)) → AreTold view (decided_by fault olds) xs → ReadsAll causes IsRead keeps_all xs (Err fault)
-  halts IsRead place olds news afters (faults.NotJournal book) to at read xs told =
-      first_here view moved still stays causes keeps place olds news afters (Err (faults.NotJournal book)) to at IsRead book (λ x. BeginsWith header x → ⊥) at.at read at.told xs told
-  halts IsRead place olds news afters (faults.BadRecord book p) to at read xs told =
-      first_here view moved still stays causes keeps place olds news afters (Err (faults.BadRecord book p)) to at IsRead book (λ x. causes.spoiled x p) at.at read at.told xs told
-  halts IsRead place olds news afters (faults.BadChain book p stood computed) to at read xs told =
-      first_here view moved still stays causes keeps place olds news afters (Err (faults.BadChain book p stood computed)) to at IsRead book (λ x. causes.unchained x p stood computed) at.at read at.told xs told
-  halts IsRead place olds news afters (faults.Unlawful book p) to at read xs told =
-      first_here view moved still stays causes keeps place olds news afters (Err (faults.Unlawful book p)) to at IsRead book (λ x. causes.unlawful x p) at.at read at.told xs told
-  halts IsRead place olds news afters (faults.Disk book) to at read xs told =
-      read_before view moved still stays causes keeps place olds news afters (Err (faults.Disk book)) to at IsRead book at.at read xs told
-  halts IsRead place olds news afters faults.NoMemory to at read xs told = tt
-  halts IsRead place olds news afters faults.BadBooks to at read xs told = at.at
-  halts IsRead place olds news afters (faults.MissingBook name) to at read xs told = at.at
-  halts IsRead place olds news afters (faults.Stranger book name id) to at read xs told = at.at
+      → EachRead view IsRead to.before → FaultOfFirst view causes IsRead olds fault
+  halts IsRead place olds news afters (faults.NotJournal book) to at each = first_here view moved still stays causes keeps place olds news afters (Err (faults.NotJournal book)) to at IsRead book (λ x. BeginsWith header x → ⊥) at.at each at.told
+  halts IsRead place olds news afters (faults.BadRecord book p) to at each = first_here view moved still stays causes keeps place olds news afters (Err (faults.BadRecord book p)) to at IsRead book (λ x. causes.spoiled x p) at.at each at.told
+  halts IsRead place olds news afters (faults.BadChain book p stood computed) to at each = first_here view moved still stays causes keeps place olds news afters (Err (faults.BadChain book p stood computed)) to at IsRead book (λ x. causes.unchained x p stood computed) at.at each at.told
+  halts IsRead place olds news afters (faults.Unlawful book p) to at each = first_here view moved still stays causes keeps place olds news afters (Err (faults.Unlawful book p)) to at IsRead book (λ x. causes.unlawful x p) at.at each at.told
+  halts IsRead place olds news afters (faults.Disk book) to at each = read_before view moved still stays causes keeps place olds news afters (Err (faults.Disk book)) to at IsRead book at.at each
+  halts IsRead place olds news afters faults.NoMemory to at each = tt
+  halts IsRead place olds news afters faults.BadBooks to at each = absurd at.at
+  halts IsRead place olds news afters (faults.MissingBook name) to at each = absurd at.at
+  halts IsRead place olds news afters (faults.Stranger book name id) to at each = absurd at.at
 
-  pub halt_counts : (place : ℕ) (olds news afters : List D) (fault : AuditFault) (to : AreReadTo view moved place olds news) (at : ReadsAt view moved causes keeps place news afters (Err fault)) → CountsBy {A = K} (Err fault) (counts view olds) (counts view afters)
-  halt_counts place olds news afters (faults.NotJournal book) to at = counts_stay view moved still stays causes keeps place olds news afters (Err (faults.NotJournal book)) to at at.count
-  halt_counts place olds news afters (faults.BadRecord book p) to at = counts_stay view moved still stays causes keeps place olds news afters (Err (faults.BadRecord book p)) to at at.count
-  halt_counts place olds news afters (faults.BadChain book p stood computed) to at = counts_stay view moved still stays causes keeps place olds news afters (Err (faults.BadChain book p stood computed)) to at at.count
-  halt_counts place olds news afters (faults.Unlawful book p) to at = counts_stay view moved still stays causes keeps place olds news afters (Err (faults.Unlawful book p)) to at at.count
-  halt_counts place olds news afters (faults.Disk book) to at = count_rose view moved still stays causes keeps place olds news afters (Err (faults.Disk book)) to at book at.count.0 at.count.1
-  halt_counts place olds news afters faults.BadBooks to at = counts_stay view moved still stays causes keeps place olds news afters (Err faults.BadBooks) to at at.count
-  halt_counts place olds news afters (faults.MissingBook name) to at = counts_stay view moved still stays causes keeps place olds news afters (Err (faults.MissingBook name)) to at at.count
-  halt_counts place olds news afters (faults.Stranger book name id) to at = counts_stay view moved still stays causes keeps place olds news afters (Err (faults.Stranger book name id)) to at at.count
-  halt_counts place olds news afters faults.NoMemory to at = counts_stay view moved still stays causes keeps place olds news afters (Err faults.NoMemory) to at at.count
+  pub halt_counts : (K : Type 0) (place : ℕ) (olds news afters : List D) (fault : AuditFault) (to : AreReadTo view moved place olds news) (at : ReadsAt view moved causes keeps place news afters (Err fault)) → CountsBy {A = K} (Err fault) (counts view olds) (counts view afters)
+  halt_counts K place olds news afters (faults.NotJournal book) to at = counts_stay view moved still stays causes keeps place olds news afters (Err (faults.NotJournal book)) to at at.count
+  halt_counts K place olds news afters (faults.BadRecord book p) to at = counts_stay view moved still stays causes keeps place olds news afters (Err (faults.BadRecord book p)) to at at.count
+  halt_counts K place olds news afters (faults.BadChain book p stood computed) to at = counts_stay view moved still stays causes keeps place olds news afters (Err (faults.BadChain book p stood computed)) to at at.count
+  halt_counts K place olds news afters (faults.Unlawful book p) to at = counts_stay view moved still stays causes keeps place olds news afters (Err (faults.Unlawful book p)) to at at.count
+  halt_counts K place olds news afters (faults.Disk book) to at = count_rose view moved still stays causes keeps place olds news afters (Err (faults.Disk book)) to at book at.count.0 at.count.1
+  halt_counts K place olds news afters faults.BadBooks to at = counts_stay view moved still stays causes keeps place olds news afters (Err faults.BadBooks) to at at.count
+  halt_counts K place olds news afters (faults.MissingBook name) to at = counts_stay view moved still stays causes keeps place olds news afters (Err (faults.MissingBook name)) to at at.count
+  halt_counts K place olds news afters (faults.Stranger book name id) to at = counts_stay view moved still stays causes keeps place olds news afters (Err (faults.Stranger book name id)) to at at.count
+  halt_counts K place olds news afters faults.NoMemory to at = counts_stay view moved still stays causes keeps place olds news afters (Err faults.NoMemory) to at at.count

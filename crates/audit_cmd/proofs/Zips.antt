@@ -98,27 +98,28 @@ module _ {X : Type 0} where
   take_at [] rest = refl
   take_at (d ∷ ds) rest = ap (λ (l : List X). d ∷ l) (take_at ds rest)
 
-  pub take_next : (done rest : List X) (x : X) → take (suc (length done)) (done ++ x ∷ rest) ≡ done ++ x ∷ []
-  take_next [] rest x = refl
-  take_next (d ∷ ds) rest x = ap (λ (l : List X). d ∷ l) (take_next ds rest x)
-
   pub none_left : (rest : List X) → length rest ≡ 0 → rest ≡ []
   none_left [] is = refl
   none_left (x ∷ xs) is = absurd (cc is)
 
--- ---- the first elements
+-- ---- each element
 
-pub zip_take : {A B : Type 0} (R : A → B → Type 0) (n : ℕ) (xs : List A) (ys : List B) → AllZip R xs ys → AllZip R (take n xs) (take n ys)
-zip_take R zero xs ys a = tt
-zip_take R (suc n) [] [] a = tt
-zip_take R (suc n) [] (y ∷ ys) a = absurd a
-zip_take R (suc n) (x ∷ xs) [] a = absurd a
-zip_take R (suc n) (x ∷ xs) (y ∷ ys) a = (a.0, zip_take R n xs ys a.1)
+module _ {A B : Type 0} where
+  -- what is beside one element
+  pub record Beside (R : A → B → Type 0) (ys : List B) (i : ℕ) (x : A) : Type 0 where
+    pub y : B
+    pub there : slice_get ys i ≡ Some y
+    pub here : R x y
 
-pub all_take : {X : Type 0} (P : X → Type 0) (n : ℕ) (xs : List X) → AllByRecursion P xs → AllByRecursion P (take n xs)
-all_take P zero xs all = tt
-all_take P (suc n) [] all = tt
-all_take P (suc n) (x ∷ xs) all = (all.0, all_take P n xs all.1)
+  pub zip_at : (R : A → B → Type 0) (xs : List A) (ys : List B) (i : ℕ) (x : A) → AllZip R xs ys → slice_get xs i ≡ Some x → Beside R ys i x
+  zip_at R [] ys i x all is = absurd (cc is)
+  zip_at R (a ∷ xs) [] i x all is = absurd all
+  zip_at R (a ∷ xs) (b ∷ ys) zero x all is = record { y = b; there = refl; here = subst (λ (z : A). R z b) (cc is) all.0 }
+  zip_at R (a ∷ xs) (b ∷ ys) (suc i) x all is = let z = zip_at R xs ys i x all.1 is in record { y = z.y; there = z.there; here = z.here }
+
+pub all_more : {X : Type 0} (P : X → Type 0) (xs : List X) (x : X) → AllByRecursion P xs → P x → AllByRecursion P (xs ++ x ∷ [])
+all_more P [] x all one = (one, tt)
+all_more P (y ∷ ys) x all one = (all.0, all_more P ys x all.1 one)
 
 -- what holds of each holds of one
 pub at_place : {X : Type 0} (P : X → Type 0) (xs : List X) (i : ℕ) (x : X) → AllByRecursion P xs → slice_get xs i ≡ Some x → P x

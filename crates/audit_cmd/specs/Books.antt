@@ -1,5 +1,5 @@
 -- What an audit of books on disks answers, by their bytes.
-use Rattle.std.specs.Prelude.{◌≡◌, ◌⊎◌, ℕ, suc, IsTrue, List, map, take, slice_get, slice_set, Option, Some, None, Result, Ok, Err}
+use Rattle.std.specs.Prelude.{◌≡◌, ◌⊎◌, ℕ, IsTrue, List, map, take, slice_get, slice_set, Option, Some, None, Result, Ok, Err}
 use Rattle.std.specs.List.{AllZip, AllByRecursion, list_any}
 use Rattle.mc_outside.specs.Bytes.{BeginsWith, Rose}
 use Rattle.mc_outside.specs.DiskView.{DiskView}
@@ -16,7 +16,8 @@ use Rattle.audit_search.specs.declared.fault.BooksFault.{BooksFault}
 use Rattle.audit_search.specs.declared.fault.BooksFault.TheVariants as founds
 use Rattle.audit_cmd.specs.declared.fault.AuditFault.{AuditFault}
 use Rattle.audit_cmd.specs.declared.fault.AuditFault.TheVariants as faults
-use Rattle.audit_cmd.specs.Reading.{IsSpoiledFrom, IsUnchainedFrom, IsUnlawfulFrom, IsWalletsHistory}
+use Rattle.audit_cmd.specs.OneBook.{Causes}
+use Rattle.audit_cmd.specs.Reading.{audit_causes, IsWalletsHistory}
 
 -- ---- the bytes of disks
 
@@ -27,25 +28,6 @@ AreTold view disks books = AllZip (λ d bytes. (view d).contents ≡ Some bytes)
 -- the counts of their faults
 abbrev pub counts : {D : Type 0} → (D → DiskView) → List D → List ℕ
 counts view disks = map (λ d. (view d).faults) disks
-
--- ---- which books decide
-
--- the books by which a fault is decided: up to the one that is not read; where its disk failed, those before it; else all
-abbrev pub decided_by : {X : Type 0} → AuditFault → List X → List X
-decided_by (faults.NotJournal book) xs = take (suc book) xs
-decided_by (faults.BadRecord book place) xs = take (suc book) xs
-decided_by (faults.BadChain book place stood computed) xs = take (suc book) xs
-decided_by (faults.Unlawful book place) xs = take (suc book) xs
-decided_by (faults.Disk book) xs = take book xs
-decided_by faults.BadBooks xs = xs
-decided_by (faults.MissingBook name) xs = xs
-decided_by (faults.Stranger book name id) xs = xs
-decided_by faults.NoMemory xs = xs
-
--- the books that decide what is found: all where no fault is
-abbrev pub deciding : {A X : Type 0} → Result A AuditFault → List X → List X
-deciding (Ok a) xs = xs
-deciding (Err fault) xs = decided_by fault xs
 
 -- ---- lawful books
 
@@ -61,18 +43,37 @@ IsHistoryOf bytes h = IsHousesHistory bytes h ⊎ IsWalletsHistory bytes h
 abbrev pub IsLawfulBook : List ℕ → Type 0
 IsLawfulBook bytes = (h : History) × IsHistoryOf bytes h
 
+-- ---- which book decides
+
+-- Each book whose disk tells its bytes is read, whatever the other disks tell.
+abbrev pub EachRead : {D : Type 0} → (D → DiskView) → (List ℕ → Type 0) → List D → Type 0
+EachRead view IsRead disks = AllByRecursion (λ d. (bytes : List ℕ) → (view d).contents ≡ Some bytes → IsRead bytes) disks
+
+-- All books before this one are read, and this one is not, for this cause; of each that holds where its own disk tells its bytes.
+pub record IsFirst {D : Type 0} (view : D → DiskView) (IsRead : List ℕ → Type 0) (disks : List D) (book : ℕ) (Cause : List ℕ → Type 0) : Type 0 where
+  pub disk : D
+  pub there : slice_get disks book ≡ Some disk
+  pub before : EachRead view IsRead (take book disks)
+  pub cause : (bytes : List ℕ) → (view disk).contents ≡ Some bytes → Cause bytes
+
+-- The fault is that of the first book that is not read, or whose disk failed; else all are read, or memory was refused.
+abbrev pub FaultOfFirst : {D : Type 0} → (D → DiskView) → Causes → (List ℕ → Type 0) → List D → AuditFault → Type 0
+FaultOfFirst view causes IsRead disks (faults.NotJournal book) = IsFirst view IsRead disks book (λ bytes. BeginsWith header bytes → ⊥)
+FaultOfFirst view causes IsRead disks (faults.BadRecord book place) = IsFirst view IsRead disks book (λ bytes. causes.spoiled bytes place)
+FaultOfFirst view causes IsRead disks (faults.BadChain book place stood computed) = IsFirst view IsRead disks book (λ bytes. causes.unchained bytes place stood computed)
+FaultOfFirst view causes IsRead disks (faults.Unlawful book place) = IsFirst view IsRead disks book (λ bytes. causes.unlawful bytes place)
+FaultOfFirst view causes IsRead disks (faults.Disk book) = EachRead view IsRead (take book disks)
+FaultOfFirst view causes IsRead disks faults.BadBooks = EachRead view IsRead disks
+FaultOfFirst view causes IsRead disks (faults.MissingBook name) = EachRead view IsRead disks
+FaultOfFirst view causes IsRead disks (faults.Stranger book name id) = EachRead view IsRead disks
+FaultOfFirst view causes IsRead disks faults.NoMemory = Unit {0}
+
+-- The first book that is not read decides, whatever the disks of the others tell; what is found else is found of books that are all read.
+abbrev pub FirstDecides : {D A : Type 0} → (D → DiskView) → Causes → (List ℕ → Type 0) → List D → Result A AuditFault → Type 0
+FirstDecides view causes IsRead disks (Ok a) = EachRead view IsRead disks
+FirstDecides view causes IsRead disks (Err fault) = FaultOfFirst view causes IsRead disks fault
+
 -- ---- what is answered
-
--- All books before this one are read, and this one is not, for this cause.
-pub record FirstOf (IsRead : List ℕ → Type 0) (books : List (List ℕ)) (book : ℕ) (Cause : List ℕ → Type 0) : Type 0 where
-  pub bytes : List ℕ
-  pub there : slice_get books book ≡ Some bytes
-  pub before : AllByRecursion IsRead (take book books)
-  pub cause : Cause bytes
-
--- All books before this one are lawful, and this one is not read as a lawful one, for this cause.
-abbrev pub IsFirst : List (List ℕ) → ℕ → (List ℕ → Type 0) → Type 0
-IsFirst books book Cause = FirstOf IsLawfulBook books book Cause
 
 -- The books stand for lawful histories of houses, of which this is found by an audit that answers so.
 pub record AreAuditedBy {R : Type 0} (Audits : List History → Result R BooksFault → Type 0) (books : List (List ℕ)) (found : Result R BooksFault) : Type 0 where
@@ -86,19 +87,17 @@ pub record HaveWallet (books : List (List ℕ)) : Type 0 where
   pub stand : AllZip IsHistoryOf books histories
   pub wallet : IsTrue (list_any is_wallet histories)
 
--- What is found by the bytes of the books that decide. The first that is not read as a lawful one decides; where there is
--- none, the books stand together or not, by the audit.
+-- What is found of books that are all read, by their bytes: they stand together or not, by the audit.
 abbrev pub FindsBy : {R : Type 0} → (List History → Result R BooksFault → Type 0) → List (List ℕ) → Result R AuditFault → Type 0
-FindsBy Audits books (Err (faults.NotJournal book)) = IsFirst books book (λ bytes. BeginsWith header bytes → ⊥)
-FindsBy Audits books (Err (faults.BadRecord book place)) = IsFirst books book (λ bytes. IsSpoiledFrom bytes place)
-FindsBy Audits books (Err (faults.BadChain book place stood computed)) = IsFirst books book (λ bytes. IsUnchainedFrom bytes place stood computed)
-FindsBy Audits books (Err (faults.Unlawful book place)) = IsFirst books book (λ bytes. IsUnlawfulFrom bytes place)
-FindsBy Audits books (Err (faults.Disk book)) = AllByRecursion IsLawfulBook books
+FindsBy Audits books (Ok r) = AreAuditedBy Audits books (Ok r)
 FindsBy Audits books (Err faults.BadBooks) = HaveWallet books ⊎ AreAuditedBy Audits books (Err founds.BadBooks)
 FindsBy Audits books (Err (faults.MissingBook name)) = AreAuditedBy Audits books (Err (founds.MissingBook name))
 FindsBy Audits books (Err (faults.Stranger book name id)) = AreAuditedBy Audits books (Err (founds.Stranger book name id))
-FindsBy Audits books (Err faults.NoMemory) = Unit {0}
-FindsBy Audits books (Ok r) = AreAuditedBy Audits books (Ok r)
+FindsBy Audits books (Err _) = Unit {0}
+
+-- of the books of an audit, which are read as lawful ones
+abbrev pub AuditDecides : {D A : Type 0} → (D → DiskView) → List D → Result A AuditFault → Type 0
+AuditDecides view disks found = FirstDecides view audit_causes IsLawfulBook disks found
 
 -- the books are those of one broker and of vendors with names of their own, or not
 abbrev pub FindsOf : List (List ℕ) → Result Report AuditFault → Type 0

@@ -2,6 +2,7 @@
 use Rattle.std.specs.Prelude.{◌≡◌, ◌⊎◌, ℕ, List, [], ◌∷◌, length, Result}
 use Rattle.std.specs.Global.{Vec}
 use Rattle.std.specs.List.{AllZip}
+use Rattle.mc_outside.specs.DiskView.{DiskView}
 use Rattle.mc_records.specs.Entry.{Entry}
 use Rattle.mc_records.specs.Chains.{chain}
 use Rattle.ledger_model.specs.Histories.{History}
@@ -15,7 +16,7 @@ use Rattle.book_opening.specs.Opening.{AreOfSite}
 use Rattle.audit_cmd.specs.declared.chain_reading.ChainLine.{ChainLine}
 use Rattle.audit_cmd.specs.declared.fault.AuditFault.{AuditFault}
 use Rattle.audit_cmd.specs.OneBook.{Causes, ReadsBy}
-use Rattle.audit_cmd.specs.Loops.{ReadsAll}
+use Rattle.audit_cmd.specs.Books.{FirstDecides}
 
 -- ---- which books are read
 
@@ -79,6 +80,6 @@ ReadsChain bytes found = ReadsBy chain_causes IsLineOf bytes found
 abbrev pub AreLinesOf : List (List ℕ) → Vec ChainLine → Type 0
 AreLinesOf books lines = AllZip IsLineOf books lines.items
 
--- What is found of the chains of books by their bytes: the line of each, or the fault of the first that has none.
-abbrev pub ChainsOf : List (List ℕ) → Result (Vec ChainLine) AuditFault → Type 0
-ChainsOf books found = ReadsAll chain_causes HasLine AreLinesOf books found
+-- of books that are read for their chains: the first that has no line decides
+abbrev pub ChainsDecide : {D A : Type 0} → (D → DiskView) → List D → Result A AuditFault → Type 0
+ChainsDecide view disks found = FirstDecides view chain_causes HasLine disks found

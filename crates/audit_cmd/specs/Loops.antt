@@ -1,19 +1,13 @@
 -- Reading books one after another.
-use Rattle.std.specs.Prelude.{◌≡◌, ℕ, Bool, true, false, List, ◌++◌, length, Result, Ok, Err}
-use Rattle.std.specs.List.{AllZip, AllByRecursion}
-use Rattle.mc_outside.specs.Bytes.{BeginsWith}
+use Rattle.std.specs.Prelude.{◌≡◌, ℕ, Bool, true, false, List, ◌++◌, length}
+use Rattle.std.specs.List.{AllZip}
 use Rattle.mc_outside.specs.DiskView.{DiskView, OnlyRead}
 use Rattle.mc_requests.specs.declared.limits.TheConstants.Limits.{FULL}
 use Rattle.ledger_model.specs.Histories.{History}
-use Rattle.scrip_journal.specs.Layout.{header}
 use Rattle.audit_sums.specs.declared.audit_sums.BookSums.{BookSums}
 use Rattle.audit_search.specs.Audit.{AreLearned}
-use Rattle.audit_cmd.specs.declared.fault.AuditFault.{AuditFault}
-use Rattle.audit_cmd.specs.declared.fault.AuditFault.TheVariants as faults
 use Rattle.audit_cmd.specs.declared.books.Kept.{Kept}
-use Rattle.audit_cmd.specs.Reading.{audit_causes}
-use Rattle.audit_cmd.specs.Books.{AreTold, IsHousesHistory, IsLawfulBook, HaveWallet, FirstOf}
-use Rattle.audit_cmd.specs.OneBook.{Causes}
+use Rattle.audit_cmd.specs.Books.{AreTold, IsHousesHistory, HaveWallet, EachRead}
 
 -- ---- what is kept
 
@@ -28,23 +22,8 @@ abbrev pub KeptOf : List (List ℕ) → Bool → List BookSums → Type 0
 KeptOf books true houses = HaveWallet books
 KeptOf books false houses = AreKept books houses
 
--- Of books of which each that was read is such a one: what was kept of all, or what was found of the first that was not
--- read.
-abbrev pub ReadsAll : {K : Type 0} → Causes → (List ℕ → Type 0) → (List (List ℕ) → K → Type 0) → List (List ℕ) → Result K AuditFault → Type 0
-ReadsAll causes IsRead keeps books (Ok kept) = keeps books kept
-ReadsAll causes IsRead keeps books (Err (faults.NotJournal book)) = FirstOf IsRead books book (λ bytes. BeginsWith header bytes → ⊥)
-ReadsAll causes IsRead keeps books (Err (faults.BadRecord book place)) = FirstOf IsRead books book (λ bytes. causes.spoiled bytes place)
-ReadsAll causes IsRead keeps books (Err (faults.BadChain book place stood computed)) = FirstOf IsRead books book (λ bytes. causes.unchained bytes place stood computed)
-ReadsAll causes IsRead keeps books (Err (faults.Unlawful book place)) = FirstOf IsRead books book (λ bytes. causes.unlawful bytes place)
-ReadsAll causes IsRead keeps books (Err (faults.Disk book)) = AllByRecursion IsRead books
-ReadsAll causes IsRead keeps books (Err faults.NoMemory) = Unit {0}
-ReadsAll causes IsRead keeps books (Err _) = ⊥
-
 abbrev pub KeptAll : List (List ℕ) → Kept → Type 0
 KeptAll books kept = KeptOf books kept.wallet kept.houses.items
-
-abbrev pub AuditsAll : List (List ℕ) → Result Kept AuditFault → Type 0
-AuditsAll books found = ReadsAll audit_causes IsLawfulBook KeptAll books found
 
 -- ---- the steps
 
@@ -64,7 +43,8 @@ pub record AreReadTo {D : Type 0} (view : D → DiskView) (moved : D → D → T
   pub long : length before ≡ place
   pub each : AllZip (IsCalm view moved) before done
 
--- and what is kept is of their bytes
-pub record HaveRead {D K : Type 0} (view : D → DiskView) (moved : D → D → Type 0) (keeps : List (List ℕ) → K → Type 0) (place : ℕ) (olds news : List D) (kept : K) : Type 0 where
+-- and what is kept is of their bytes: each that tells them is read, and where all do this is kept of all
+pub record HaveRead {D K : Type 0} (view : D → DiskView) (moved : D → D → Type 0) (IsRead : List ℕ → Type 0) (keeps : List (List ℕ) → K → Type 0) (place : ℕ) (olds news : List D) (kept : K) : Type 0 where
   pub to : AreReadTo view moved place olds news
+  pub books : EachRead view IsRead to.before
   pub told : (books : List (List ℕ)) → AreTold view to.before books → keeps books kept

@@ -1,7 +1,7 @@
 -- What is told of the books that an auditor's command reads.
-use Rattle.std.specs.Prelude.{◌≡◌, ◌⊎◌, ◌<◌, ℕ, suc, Bool, true, false, List, length, take, flat_map, Result, Err, Ok}
+use Rattle.std.specs.Prelude.{◌≡◌, ◌⊎◌, ◌<◌, ℕ, Bool, true, false, List, length, take, flat_map, Result, Err, Ok}
 use Rattle.std.specs.Global.{Vec}
-use Rattle.std.specs.List.{AllZip, AllByRecursion}
+use Rattle.std.specs.List.{AllZip}
 use Rattle.mc_outside.specs.Bytes.{BeginsWith}
 use Rattle.mc_outside.specs.DiskView.{DiskView}
 use Rattle.mc_requests.specs.declared.refusal.Refusal.{Refusal}
@@ -22,7 +22,7 @@ use Rattle.audit_cmd.specs.declared.fault.AuditFault.{AuditFault}
 use Rattle.audit_cmd.specs.declared.fault.AuditFault.TheVariants as faults
 use Rattle.audit_cmd.specs.Reading.{IsSpoiledFrom, IsUnchainedFrom, IsUnlawfulFrom}
 use Rattle.audit_cmd.specs.declared.chain_reading.ChainLine.{ChainLine}
-use Rattle.audit_cmd.specs.Books.{AreTold, counts, IsLawfulBook, FirstOf, AreAuditedBy, HaveWallet, RoseAt}
+use Rattle.audit_cmd.specs.Books.{AreTold, counts, IsLawfulBook, EachRead, IsFirst, AreAuditedBy, HaveWallet, RoseAt}
 use Rattle.audit_cmd.specs.Chains.{IsLineOf, HasLine, SpoilsChain, BreaksChain, HasNoSite}
 use Rattle.said_lines.specs.Lines.{chain_line}
 use Rattle.command_status.specs.declared.status.Status.{Status}
@@ -90,23 +90,26 @@ IsOfBooks _ = ⊥
 abbrev pub IfTold : {D : Type 0} → (D → DiskView) → List D → (List (List ℕ) → Type 0) → Type 0
 IfTold view disks Holds = (contents : List (List ℕ)) → AreTold view disks contents → Holds contents
 
--- One of the books is the first that is not read, for this cause, where its disk and those before it tell their bytes.
-pub record TellsFirst {D : Type 0} (view : D → DiskView) (IsRead : List ℕ → Type 0) (disks : List D) (Cause : List ℕ → Type 0) : Type 0 where
-  pub book : ℕ
-  pub there : book < length disks
-  pub first : IfTold view (take (suc book) disks) (λ books. FirstOf IsRead books book Cause)
+-- One of the books is the first that is not read, for this cause.
+abbrev pub TellsFirst : {D : Type 0} → (D → DiskView) → (List ℕ → Type 0) → List D → (List ℕ → Type 0) → Type 0
+TellsFirst view IsRead disks Cause = (book : ℕ) × IsFirst view IsRead disks book Cause
+
+-- All books are read, and this holds of their bytes, where all disks tell them.
+pub record TellsAll {D : Type 0} (view : D → DiskView) (IsRead : List ℕ → Type 0) (disks : List D) (Holds : List (List ℕ) → Type 0) : Type 0 where
+  pub read : EachRead view IsRead disks
+  pub holds : IfTold view disks Holds
 
 -- How the report of books ends, whatever their disks tell, and by their bytes: the books balance and their report is said, or
 -- the first that is not read as a lawful one decides, or lawful books are refused, or the first stranger is told, with the
 -- name of its book.
 abbrev pub ReportsBy : {D R : Type 0} → (D → DiskView) → (List History → Result R BooksFault → Type 0) → (R → List ℕ) → List D → Status → Type 0
-ReportsBy {R = R} view Audits said disks (ends.Did lines) = (r : R) × (lines ≡ said r) × IfTold view disks (λ books. AreAuditedBy Audits books (Ok r))
+ReportsBy {R = R} view Audits said disks (ends.Did lines) = (r : R) × (lines ≡ said r) × TellsAll view IsLawfulBook disks (λ books. AreAuditedBy Audits books (Ok r))
 ReportsBy view Audits said disks ends.NotJournal = TellsFirst view IsLawfulBook disks (λ bytes. BeginsWith header bytes → ⊥)
 ReportsBy view Audits said disks (ends.BadEntry place) = TellsFirst view IsLawfulBook disks (λ bytes. IsSpoiledFrom bytes place)
 ReportsBy view Audits said disks (ends.BadChain place) = (stood : List ℕ) × (computed : List ℕ) × TellsFirst view IsLawfulBook disks (λ bytes. IsUnchainedFrom bytes place stood computed)
 ReportsBy view Audits said disks (ends.UnlawfulEntry place) = TellsFirst view IsLawfulBook disks (λ bytes. IsUnlawfulFrom bytes place)
-ReportsBy view Audits said disks (ends.Refused refusal) = IsOfBooks refusal × IfTold view disks (λ books. RefusesBy Audits books refusal)
-ReportsBy view Audits said disks (ends.Stranger name id) = (book : ℕ) × (book < length disks) × IfTold view disks (λ books. AreAuditedBy Audits books (Err (founds.Stranger book name id)))
+ReportsBy view Audits said disks (ends.Refused refusal) = IsOfBooks refusal × TellsAll view IsLawfulBook disks (λ books. RefusesBy Audits books refusal)
+ReportsBy view Audits said disks (ends.Stranger name id) = (book : ℕ) × (book < length disks) × TellsAll view IsLawfulBook disks (λ books. AreAuditedBy Audits books (Err (founds.Stranger book name id)))
 ReportsBy view Audits said disks ends.DiskFault = Unit {0}
 ReportsBy view Audits said disks ends.NoMemory = Unit {0}
 ReportsBy view Audits said disks _ = ⊥
@@ -121,7 +124,7 @@ ReportsTree view disks status = ReportsBy view (TreeAudited FULL) tree_text disk
 
 -- How telling the chains of books ends, likewise: with a line for each, or by the first that has none.
 abbrev pub TellsChains : {D : Type 0} → (D → DiskView) → List D → Status → Type 0
-TellsChains view disks (ends.Did text) = (lines : List ChainLine) × (text ≡ chain_lines lines) × IfTold view disks (λ books. AllZip IsLineOf books lines)
+TellsChains view disks (ends.Did text) = (lines : List ChainLine) × (text ≡ chain_lines lines) × TellsAll view HasLine disks (λ books. AllZip IsLineOf books lines)
 TellsChains view disks ends.NotJournal = TellsFirst view HasLine disks (λ bytes. BeginsWith header bytes → ⊥)
 TellsChains view disks (ends.BadEntry place) = TellsFirst view HasLine disks (λ bytes. SpoilsChain bytes place)
 TellsChains view disks (ends.BadChain place) = (stood : List ℕ) × (computed : List ℕ) × TellsFirst view HasLine disks (λ bytes. BreaksChain bytes place stood computed)
@@ -132,11 +135,11 @@ TellsChains view disks _ = ⊥
 
 -- ---- faults of disks
 
--- The count of one disk rose, and the others stayed; the books before it are read, where their disks tell them.
+-- The count of one disk rose, and the others stayed; the books before it are read.
 pub record FailsAt {D : Type 0} (view : D → DiskView) (IsRead : List ℕ → Type 0) (before after : List D) : Type 0 where
   pub book : ℕ
   pub rose : RoseAt book (counts view before) (counts view after)
-  pub first : IfTold view (take book before) (λ books. AllByRecursion IsRead books)
+  pub first : EachRead view IsRead (take book before)
 
 -- A disk failed where that is told; else no count rose.
 abbrev pub CausesOf : {D : Type 0} → (D → DiskView) → (List ℕ → Type 0) → List D → Status → List D → Type 0

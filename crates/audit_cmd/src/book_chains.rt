@@ -1,11 +1,11 @@
 //! The chains of books on disks.
 
-ghost use Rattle.std.specs.Prelude.{◌≡◌, ◌<◌, List, ℕ, Some, IfErr, length};
+ghost use Rattle.std.specs.Prelude.{◌≡◌, ◌<◌, List, ℕ, Some, IfOk, IfErr, length};
 ghost use Rattle.std.specs.List.{AllZip, AllByRecursion};
 ghost use Rattle.mc_outside.specs.DiskView.{OnlyRead};
-ghost use Rattle.audit_cmd.specs.Books.{AreTold, counts, deciding, EndsReading, IsOfLawful, CountsBy};
+ghost use Rattle.audit_cmd.specs.Books.{AreTold, counts, EndsReading, IsOfLawful, CountsBy};
 ghost use Rattle.audit_cmd.specs.Places.{ReadsAt};
-ghost use Rattle.audit_cmd.specs.Chains.{IsLineOf, HasLine, chain_causes, ChainsOf};
+ghost use Rattle.audit_cmd.specs.Chains.{IsLineOf, HasLine, chain_causes, ChainsDecide};
 
 use crate::chain_reading::{ChainLine, read_chain};
 use crate::fault::AuditFault;
@@ -22,15 +22,16 @@ use std::alloc::Global;
 /// its first, and `Disk` only where its disk failed. `NoMemory` may come at any point. No other fault comes: of entries
 /// behind the first nothing else is asked. Nothing is written.
 ///
-/// What is said of bytes asks no disk for them behind the one whose book decides.
+/// The first book that has no line decides whatever other disks tell; of the lines of all something holds where all tell their bytes.
 pub fn chains<D: Disk>(
     alloc: Global,
     mut books: Vec<D>,
 ) -> (Vec<D>, Result<Vec<ChainLine>, AuditFault>)
     ensures read { AllZip (λ a b. OnlyRead (D.disk a) (D.disk b)) books.items result.0.items }
     ensures moved { AllZip D.disk_moved books.items result.0.items }
-    ensures exact { (contents : List (List ℕ))
-        → AreTold D.disk (deciding result.1 books.items) contents → ChainsOf contents result.1 }
+    ensures decides { ChainsDecide D.disk books.items result.1 }
+    ensures exact { IfOk result.1 (λ lines. (contents : List (List ℕ))
+        → AreTold D.disk books.items contents → AllZip IsLineOf contents lines.items) }
     ensures lined { (contents : List (List ℕ)) → AreTold D.disk books.items contents
         → AllByRecursion HasLine contents → IsOfLawful result.1 }
     ensures fault { CountsBy result.1 (counts D.disk books.items) (counts D.disk result.0.items) }
@@ -46,8 +47,9 @@ pub fn chains<D: Disk>(
 fn read_chains<D: Disk>(alloc: Global, books: &mut Vec<D>) -> Result<Vec<ChainLine>, AuditFault>
     ensures read { AllZip (λ a b. OnlyRead (D.disk a) (D.disk b)) books.old.items books.new.items }
     ensures moved { AllZip D.disk_moved books.old.items books.new.items }
-    ensures exact { (contents : List (List ℕ))
-        → AreTold D.disk (deciding result books.old.items) contents → ChainsOf contents result }
+    ensures decides { ChainsDecide D.disk books.old.items result }
+    ensures exact { IfOk result (λ lines. (contents : List (List ℕ))
+        → AreTold D.disk books.old.items contents → AllZip IsLineOf contents lines.items) }
     ensures fault { CountsBy result (counts D.disk books.old.items)
         (counts D.disk books.new.items) }
     ensures place { IfErr result (EndsReading (λ book. book < length books.old.items)) }

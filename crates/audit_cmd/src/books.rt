@@ -3,10 +3,10 @@
 ghost use Rattle.std.specs.Prelude.{◌≡◌, ◌<◌, ◌≤◌, ◌+◌, ◌++◌, ◌∷◌, [], List, ℕ, Some, IfOk, IfErr, OnOk, length};
 ghost use Rattle.std.specs.List.{AllZip};
 ghost use Rattle.mc_outside.specs.DiskView.{OnlyRead};
-ghost use Rattle.audit_cmd.specs.Books.{AreTold, counts, deciding, EndsReading, CountsBy};
+ghost use Rattle.audit_cmd.specs.Books.{AreTold, counts, AuditDecides, EndsReading, CountsBy};
 ghost use Rattle.audit_cmd.specs.Places.{ReadsAt};
 ghost use Rattle.audit_cmd.specs.Reading.{audit_causes, IsKeptOf};
-ghost use Rattle.audit_cmd.specs.Loops.{KeptOf, AuditsAll};
+ghost use Rattle.audit_cmd.specs.Loops.{KeptOf, KeptAll};
 
 use crate::fault::AuditFault;
 use crate::one_book::said_of;
@@ -45,8 +45,9 @@ impl Kept {
 pub(crate) fn read_books<D: Disk>(alloc: Global, books: &mut Vec<D>) -> Result<Kept, AuditFault>
     ensures read { AllZip (λ a b. OnlyRead (D.disk a) (D.disk b)) books.old.items books.new.items }
     ensures moved { AllZip D.disk_moved books.old.items books.new.items }
-    ensures exact { (contents : List (List ℕ))
-        → AreTold D.disk (deciding result books.old.items) contents → AuditsAll contents result }
+    ensures decides { AuditDecides D.disk books.old.items result }
+    ensures exact { IfOk result (λ kept. (contents : List (List ℕ))
+        → AreTold D.disk books.old.items contents → KeptAll contents kept) }
     ensures fault { CountsBy result (counts D.disk books.old.items)
         (counts D.disk books.new.items) }
     ensures place { IfErr result (EndsReading (λ book. book < length books.old.items)) }

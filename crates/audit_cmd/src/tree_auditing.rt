@@ -3,7 +3,7 @@
 ghost use Rattle.std.specs.Prelude.{◌<◌, List, ℕ, IfSome, length};
 ghost use Rattle.std.specs.List.{AllZip, AllByRecursion};
 ghost use Rattle.mc_outside.specs.DiskView.{OnlyRead};
-ghost use Rattle.audit_cmd.specs.Books.{AreTold, counts, deciding, IsLawfulBook, FindsTree, IsOfLawful, IsOfAll, told_book, CountsBy};
+ghost use Rattle.audit_cmd.specs.Books.{AreTold, counts, AuditDecides, IsLawfulBook, FindsTree, IsOfLawful, IsOfAll, told_book, CountsBy};
 ghost use Rattle.audit_cmd.specs.Loops.{KeptOf};
 
 use crate::books::{Kept, read_books};
@@ -22,12 +22,12 @@ use tree_search::audit_tree_books;
 /// the least such name; then `Stranger` exactly where one stands, with the first by book and then by entry. `NoMemory` may come
 /// at any point. Nothing is written.
 ///
-/// What is said of bytes asks no disk for them behind the one whose book decides.
+/// The first book that is not read decides whatever other disks tell; what is found of all books holds where all tell their bytes.
 pub fn audit_tree<D: Disk>(alloc: Global, mut books: Vec<D>) -> (Vec<D>, Result<Tree, AuditFault>)
     ensures read { AllZip (λ a b. OnlyRead (D.disk a) (D.disk b)) books.items result.0.items }
     ensures moved { AllZip D.disk_moved books.items result.0.items }
-    ensures exact { (contents : List (List ℕ))
-        → AreTold D.disk (deciding result.1 books.items) contents → FindsTree contents result.1 }
+    ensures decides { AuditDecides D.disk books.items result.1 }
+    ensures exact { (contents : List (List ℕ)) → AreTold D.disk books.items contents → FindsTree contents result.1 }
     ensures lawful { (contents : List (List ℕ)) → AreTold D.disk books.items contents
         → AllByRecursion IsLawfulBook contents → IsOfLawful result.1 }
     ensures fault { CountsBy result.1 (counts D.disk books.items) (counts D.disk result.0.items) }

@@ -98,11 +98,11 @@ strange_reason book Audits said xs status has reports (inr (inl short)) = inr (i
 strange_reason book Audits said xs status has reports (inr (inr (inl is))) =
     let told = told_refusal status is in
     let why = subst (ReportsBy book Audits said xs) told.1 reports in
-    inr (inr (inl (is, told.0, (has.contents, has.told, why.1 has.contents has.told))))
+    inr (inr (inl (is, told.0, (has.contents, has.told, why.1.holds has.contents has.told))))
 strange_reason book Audits said xs status has reports (inr (inr (inr is))) =
     let told = told_stranger status is in
     let why = subst (ReportsBy book Audits said xs) told.2 reports in
-    inr (inr (inr (is, why.0, told.0, told.1, (has.contents, has.told, why.2 has.contents has.told))))
+    inr (inr (inr (is, why.0, told.0, told.1, (has.contents, has.told, why.2.holds has.contents has.told))))
 
 -- ---- founders
 

@@ -149,8 +149,9 @@ pub record HaveBooks {D : Type 0} (book : D → DiskView) (xs : List D) : Type 0
   pub lawful : AllByRecursion IsLawfulBook contents
 
 -- Books are audited and reported, up to the line that is said. The causes of faults and which statuses may come hold of every
--- disk; what is said of books holds where the disks of those that decide tell their bytes. Where the books are lawful and no disk failed,
--- nothing but a stranger, a refusal or want of memory keeps them from being reported.
+-- disk. Which book decides holds whatever other disks tell, by the bytes of each that tells its own; what is found of all books, where all
+-- tell theirs. Where the books are lawful and no disk failed, nothing but a stranger, a refusal or want of memory keeps them from being
+-- reported.
 pub record Audits {D : Type 0} (book : D → DiskView) (json : Bool) (xs : List D) (status : Status) (ys : List D) : Type 0 where
   pub causes : ReportCauses book xs status ys
   pub reports : ReportsBooks book json xs status

@@ -8,10 +8,10 @@ pub returns-clause-words : goal.returns-clause-words
 returns-clause-words g c = found_words (Audited FULL) (report_lines c.args.as_json) c.audit-books.result.1 c.status_of-status.result c.status_of-status.ensures
 
 pub returns-clause-causes : goal.returns-clause-causes
-returns-clause-causes g c = found_causes (Audited FULL) (report_lines c.args.as_json) g.D.Disk.disk c.args.books.items c.audit-books.result.0.items c.audit-books.result.1 c.status_of-status.result c.status_of-status.ensures c.audit-books.ensures.exact c.audit-books.ensures.fault
+returns-clause-causes g c = found_causes (Audited FULL) (report_lines c.args.as_json) g.D.Disk.disk c.args.books.items c.audit-books.result.0.items c.audit-books.result.1 c.status_of-status.result c.status_of-status.ensures c.audit-books.ensures.decides c.audit-books.ensures.fault
 
 pub returns-clause-reported : goal.returns-clause-reported
-returns-clause-reported g c = found_reports (Audited FULL) (report_lines c.args.as_json) g.D.Disk.disk c.args.books.items c.audit-books.result.1 c.status_of-status.result c.status_of-status.ensures c.audit-books.ensures.place c.audit-books.ensures.exact
+returns-clause-reported g c = found_reports (Audited FULL) (report_lines c.args.as_json) g.D.Disk.disk c.args.books.items c.audit-books.result.1 c.status_of-status.result c.status_of-status.ensures c.audit-books.ensures.place c.audit-books.ensures.decides c.audit-books.ensures.exact
 
 pub returns-clause-ends : goal.returns-clause-ends
 returns-clause-ends g c contents told lawful calm =

@@ -8,10 +8,10 @@ pub returns-clause-words : goal.returns-clause-words
 returns-clause-words g c = found_words (TreeAudited FULL) tree_text c.audit_tree-books.result.1 c.status_of-status.result c.status_of-status.ensures
 
 pub returns-clause-causes : goal.returns-clause-causes
-returns-clause-causes g c = found_causes (TreeAudited FULL) tree_text g.D.Disk.disk c.args.books.items c.audit_tree-books.result.0.items c.audit_tree-books.result.1 c.status_of-status.result c.status_of-status.ensures c.audit_tree-books.ensures.exact c.audit_tree-books.ensures.fault
+returns-clause-causes g c = found_causes (TreeAudited FULL) tree_text g.D.Disk.disk c.args.books.items c.audit_tree-books.result.0.items c.audit_tree-books.result.1 c.status_of-status.result c.status_of-status.ensures c.audit_tree-books.ensures.decides c.audit_tree-books.ensures.fault
 
 pub returns-clause-reported : goal.returns-clause-reported
-returns-clause-reported g c = found_reports (TreeAudited FULL) tree_text g.D.Disk.disk c.args.books.items c.audit_tree-books.result.1 c.status_of-status.result c.status_of-status.ensures c.audit_tree-books.ensures.place c.audit_tree-books.ensures.exact
+returns-clause-reported g c = found_reports (TreeAudited FULL) tree_text g.D.Disk.disk c.args.books.items c.audit_tree-books.result.1 c.status_of-status.result c.status_of-status.ensures c.audit_tree-books.ensures.place c.audit_tree-books.ensures.decides c.audit_tree-books.ensures.exact
 
 pub returns-clause-ends : goal.returns-clause-ends
 returns-clause-ends g c contents told lawful calm =
