@@ -14,11 +14,11 @@ use Rattle.world_model.proofs.Delivered.{steps_are_delivered}
 use Rattle.world_model.proofs.Lists.{get_front, get_last, set_here}
 use Rattle.ledger_model.proofs.ListLaws.{all_weaker, all_append}
 use Rattle.mc_outside.specs.LinkView.{LinkView, Session}
-use Rattle.world_laws.specs.Links.{AreTexts, link_events, sent_by_none, after_link, replies_of, IsPartOf, IsReceivedOn, AreReceived, IsOfServing, Leads}
+use Rattle.world_laws.specs.Links.{AreTexts, link_events, sent_by_none, after_link, replies_of, IsPartOf, IsReceivedOn, AreReceived, IsOfServing, LeadsBy}
 
 -- ---- lists
 
-set_same : {X : Type 0} (xs : List X) (n : ℕ) (x : X) → slice_get xs n ≡ Some x → slice_set xs n x ≡ xs
+pub set_same : {X : Type 0} (xs : List X) (n : ℕ) (x : X) → slice_get xs n ≡ Some x → slice_set xs n x ≡ xs
 set_same [] n x is = refl
 set_same {X} (y ∷ xs) zero x is = ap (λ (z : X). z ∷ xs) (sym (same_Some y x is))
 set_same {X} (y ∷ xs) (suc n) x is = ap (λ (zs : List X). y ∷ zs) (set_same xs n x is)
@@ -31,7 +31,7 @@ set_twice {X} (z ∷ xs) (suc n) x y = ap (λ (zs : List X). z ∷ zs) (set_twic
 -- ---- one item
 
 -- a moment is a reading of the clock as it is
-moment_is : (reading : ℕ) → reading < 2 ^ 35 → clamped reading ≡ reading
+pub moment_is : (reading : ℕ) → reading < 2 ^ 35 → clamped reading ≡ reading
 moment_is reading lt = omega (arith, lt)
 
 -- after the text of an item was sent and has reached the house
@@ -68,7 +68,7 @@ rest_after w i t text texts d replies =
     made : List State → List Message → List (List ℕ) → World
     made hs ms rs = record w { houses = hs; messages = ms; replies = rs }
 
-nothing_after : (w : World) (i : ℕ) (s : State) → slice_get w.houses i ≡ Some s → after_link w i s [] [] ≡ w
+pub nothing_after : (w : World) (i : ℕ) (s : State) → slice_get w.houses i ≡ Some s → after_link w i s [] [] ≡ w
 nothing_after w i s house =
     ap (λ (hs : List State). made hs (w.messages ++ []) (w.replies ++ [])) (set_same w.houses i s house)
     ∙ ap (λ (ms : List Message). made w.houses ms (w.replies ++ [])) (append-nil w.messages)
@@ -163,8 +163,8 @@ links_twice w i t u xs ys rs qs =
     made : List State → List Message → List (List ℕ) → World
     made hs ms rs = record w { houses = hs; messages = ms; replies = rs }
 
-pub leads_none : (limits : Limits) (w : World) (i : ℕ) (s : State) (links : LinkView) → slice_get w.houses i ≡ Some s → Leads limits w i s links
-leads_none limits w i s links house = record { events = []; texts = []; replies = []; plays = nothing_after w i s house; received = λ ss is. tt; serving = tt }
+pub leads_none : (Is : ℕ → Event → Type 0) (limits : Limits) (w : World) (i : ℕ) (s : State) (links : LinkView) → slice_get w.houses i ≡ Some s → LeadsBy Is limits w i s links
+leads_none Is limits w i s links house = record { events = []; texts = []; replies = []; plays = nothing_after w i s house; received = λ ss is. tt; kinds = tt }
 
 -- the later links begin with the earlier ones
 abbrev pub Grow : LinkView → LinkView → Type 0
@@ -176,8 +176,9 @@ received_still a b texts grow all ss is =
     all_weaker (IsReceivedOn g.0) (IsReceivedOn ss) (λ text p. (p.0, p.1, subst (λ (xs : List Session). slice_get xs p.0 ≡ Some p.1) (sym g.3) (get_front g.0 g.1 p.0 p.1 p.2), p.3)) texts (all g.0 g.2)
 
 -- a house that was led somewhere is led on from there
-pub leads_from : (limits : Limits) (w : World) (i : ℕ) (s t u : State) (a b : LinkView) → Grow a b → slice_get w.houses i ≡ Some s → (first : Leads limits w i t a) → Leads limits (after_link w i t first.texts first.replies) i u b → Leads limits w i u b
-leads_from limits w i s t u a b grow house first c =
+pub leads_from : (Is : ℕ → Event → Type 0) (limits : Limits) (w : World) (i : ℕ) (s t u : State) (a b : LinkView) → Grow a b → slice_get w.houses i ≡ Some s → (first : LeadsBy Is limits w i t a)
+    → LeadsBy Is limits (after_link w i t first.texts first.replies) i u b → LeadsBy Is limits w i u b
+leads_from Is limits w i s t u a b grow house first c =
     let x : World = after_link w i t first.texts first.replies in
     record {
       events = first.events ++ c.events;
@@ -185,15 +186,19 @@ leads_from limits w i s t u a b grow house first c =
       replies = first.replies ++ c.replies;
       plays = subst (λ (v : World). Plays limits w (first.events ++ c.events) v) (links_twice w i t u first.texts c.texts first.replies c.replies) (plays_append limits w first.events c.events x (after_link x i u c.texts c.replies) first.plays c.plays);
       received = λ ss is. all_append (IsReceivedOn ss) first.texts c.texts (received_still a b first.texts grow first.received ss is) (c.received ss is);
-      serving = all_append (IsOfServing i) first.events c.events first.serving c.serving;
+      kinds = all_append (Is i) first.events c.events first.kinds c.kinds;
     }
 
-pub leads_on : (limits : Limits) (w : World) (i : ℕ) (s t u : State) (a b : LinkView) → Grow a b → slice_get w.houses i ≡ Some s → Leads limits w i t a → ((x : World) → slice_get x.houses i ≡ Some t → Leads limits x i u b) → Leads limits w i u b
-leads_on limits w i s t u a b grow house first then_ =
-    leads_from limits w i s t u a b grow house first (then_ (after_link w i t first.texts first.replies) (set_here w.houses i s t house))
+pub leads_on : (Is : ℕ → Event → Type 0) (limits : Limits) (w : World) (i : ℕ) (s t u : State) (a b : LinkView) → Grow a b → slice_get w.houses i ≡ Some s → LeadsBy Is limits w i t a
+    → ((x : World) → slice_get x.houses i ≡ Some t → LeadsBy Is limits x i u b) → LeadsBy Is limits w i u b
+leads_on Is limits w i s t u a b grow house first then_ =
+    leads_from Is limits w i s t u a b grow house first (then_ (after_link w i t first.texts first.replies) (set_here w.houses i s t house))
 
-pub leads_same : (limits : Limits) (w : World) (i : ℕ) (t : State) (a b : LinkView) → b.sessions ≡ a.sessions → Leads limits w i t a → Leads limits w i t b
-leads_same limits w i t a b same x = record { events = x.events; texts = x.texts; replies = x.replies; plays = x.plays; received = λ ss is. x.received ss (sym same ∙ is); serving = x.serving }
+pub leads_same : (Is : ℕ → Event → Type 0) (limits : Limits) (w : World) (i : ℕ) (t : State) (a b : LinkView) → b.sessions ≡ a.sessions → LeadsBy Is limits w i t a → LeadsBy Is limits w i t b
+leads_same Is limits w i t a b same x = record { events = x.events; texts = x.texts; replies = x.replies; plays = x.plays; received = λ ss is. x.received ss (sym same ∙ is); kinds = x.kinds }
+
+pub leads_weaker : (Is Other : ℕ → Event → Type 0) → ((i : ℕ) (e : Event) → Is i e → Other i e) → (limits : Limits) (w : World) (i : ℕ) (t : State) (links : LinkView) → LeadsBy Is limits w i t links → LeadsBy Other limits w i t links
+leads_weaker Is Other so limits w i t links x = record { events = x.events; texts = x.texts; replies = x.replies; plays = x.plays; received = x.received; kinds = all_weaker (Is i) (Other i) (so i) x.events x.kinds }
 
 -- the texts of the items at the front of some bytes are parts of them
 pub texts_part : (bytes : List ℕ) (items : List Item) (texts : List (List ℕ)) → AreTexts bytes items texts → AllByRecursion (IsPartOf bytes) texts

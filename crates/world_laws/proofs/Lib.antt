@@ -3,5 +3,8 @@ pub mod Delivering
 pub mod LinkLemmas
 pub mod RequestLemmas
 pub mod RunLemmas
+pub mod OperatorLemmas
+pub mod BookLemmas
+pub mod DoorLemmas
 pub mod PaymentRuns
 pub mod WireLemmas

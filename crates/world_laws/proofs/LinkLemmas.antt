@@ -17,7 +17,7 @@ use Rattle.ledger_model.specs.Replies.{reply_of}
 use Rattle.house_core.specs.Session.{State, raised, entered, Gives, Step}
 use Rattle.house_serving.specs.InDoubt.{InDoubtLink}
 use Rattle.world_model.specs.Worlds.{World, Plays}
-use Rattle.world_laws.specs.Links.{AreMoments, TellsMoments, AreSent, IsHeard, LinkIsPlayed, FrontIsPlayed, LinkIsSchedule, LinksArePlayed, AllArePlayed, SomeArePlayed, FirstArePlayed, link_events, after_link, replies_of, AreTexts, IsPartOf, IsReceivedOn, AreReceived, Leads, AllLead, SomeLead, FirstLead, DoubtLeads, FrontsLead, AllFrontsLead, SomeFrontsLead}
+use Rattle.world_laws.specs.Links.{AreMoments, TellsMoments, AreSent, IsHeard, LinkIsPlayed, FrontIsPlayed, LinkIsSchedule, LinksArePlayed, AllArePlayed, SomeArePlayed, FirstArePlayed, link_events, after_link, replies_of, AreTexts, IsPartOf, IsReceivedOn, AreReceived, IsOfServing, Leads, AllLead, SomeLead, FirstLead, DoubtLeads, FrontsLead, AllFrontsLead, SomeFrontsLead}
 use Rattle.ledger_model.proofs.ListLaws.{all_weaker}
 use Rattle.world_model.proofs.Lists.{get_last, set_here}
 use Rattle.world_laws.proofs.Cutting.{HasTexts, texts_read, texts_of}
@@ -25,22 +25,22 @@ use Rattle.world_laws.proofs.Delivering.{link_plays, link_leads, leads_none, lea
 
 -- ---- readings
 
-front : (xs ys : List ℕ) → AreMoments (xs ++ ys) → AreMoments xs
+pub front : (xs ys : List ℕ) → AreMoments (xs ++ ys) → AreMoments xs
 front [] ys all = tt
 front (x ∷ xs) ys all = (all.0, front xs ys all.1)
 
-behind : (xs ys : List ℕ) → AreMoments (xs ++ ys) → AreMoments ys
+pub behind : (xs ys : List ℕ) → AreMoments (xs ++ ys) → AreMoments ys
 behind [] ys all = all
 behind (x ∷ xs) ys all = behind xs ys all.1
 
 -- moments that are told now were told before, and these readings are moments
-these_moments : (before after : LinkView) (readings : List ℕ) → AreRead OfLinks readings before.readings after.readings → TellsMoments after → AreMoments readings
+pub these_moments : (before after : LinkView) (readings : List ℕ) → AreRead OfLinks readings before.readings after.readings → TellsMoments after → AreMoments readings
 these_moments before after readings read tells = let r = read tells.0 tells.1 in behind r.0 readings (subst AreMoments r.2 tells.2)
 
-moments_read : (before after : LinkView) (readings : List ℕ) → AreRead OfLinks readings before.readings after.readings → TellsMoments after → TellsMoments before
+pub moments_read : (before after : LinkView) (readings : List ℕ) → AreRead OfLinks readings before.readings after.readings → TellsMoments after → TellsMoments before
 moments_read before after readings read tells = let r = read tells.0 tells.1 in (r.0, r.1, front r.0 readings (subst AreMoments r.2 tells.2))
 
-same_moments : (v w : LinkView) → w.readings ≡ v.readings → TellsMoments w → TellsMoments v
+pub same_moments : (v w : LinkView) → w.readings ≡ v.readings → TellsMoments w → TellsMoments v
 same_moments v w same tells = (tells.0, sym same ∙ tells.1, tells.2)
 
 -- ---- what was sent
@@ -79,7 +79,7 @@ played limits w i s steps whole before after got items house texts replied heard
       (link_plays limits w i s got items texts.texts replied.readings whole house texts.are moments replied.ran none);
 }
 
-abbrev sessions_of : LinkView → Option (List Session)
+abbrev pub sessions_of : LinkView → Option (List Session)
 sessions_of v = v.sessions
 
 pub heard_served : (limits : Limits) (s : State) (steps : List (Did State)) (before after : LinkView) (c : IsServed (Step limits) OfLinks steps s before after) → IsHeard c.got steps before after
@@ -142,7 +142,7 @@ link_is_schedule limits w i s steps before after house had =
 -- ---- links one after another
 
 -- where moments are told after a link, they were told before it
-moments_before : (limits : Limits) (s : State) (steps : List (Did State)) (before after : LinkView) → HadLink (Step limits) OfLinks steps s before after → TellsMoments after → TellsMoments before
+pub moments_before : (limits : Limits) (s : State) (steps : List (Did State)) (before after : LinkView) → HadLink (Step limits) OfLinks steps s before after → TellsMoments after → TellsMoments before
 moments_before limits s steps before after had tells =
     let here : TellsMoments had.served = same_moments had.served after (ap (λ (v : LinkView). v.readings) had.ended) tells in
     elim had.course [
@@ -207,12 +207,12 @@ front_read bytes held (item ∷ items) last read =
     record { held = more.held; read = (read.0, read.1, more.read) }
 
 -- a reply, or a first part of it, was sent
-sends_sessions : (reply said : List ℕ) (before after : LinkView)
+pub sends_sessions : (reply said : List ℕ) (before after : LinkView)
     → ((said ≡ reply) × (after ≡ after_send reply before)) ⊎ ((n : ℕ) × (n < length reply) × (said ≡ take n reply) × Failed (after_send said before) after) → after.sessions ≡ (after_send said before).sessions
 sends_sessions reply said before after (inl a) = ap sessions_of a.1 ∙ ap (λ (l : List ℕ). (after_send l before).sessions) (sym a.0)
 sends_sessions reply said before after (inr b) = ap sessions_of b.3.same
 
-front_is_played : (limits : Limits) (w : World) (i : ℕ) (s : State) (steps : List (Did State)) (before : LinkView) (e : Entry) (said : List ℕ) (after : LinkView) → slice_get w.houses i ≡ Some s → InDoubtLink limits steps s before e said after
+pub front_is_played : (limits : Limits) (w : World) (i : ℕ) (s : State) (steps : List (Did State)) (before : LinkView) (e : Entry) (said : List ℕ) (after : LinkView) → slice_get w.houses i ≡ Some s → InDoubtLink limits steps s before e said after
     → FrontIsPlayed limits w i s steps said before after
 front_is_played limits w i s steps before e said after house l =
     let first = front_read l.got l.first.held l.front (request l.q l.closes) l.first.read in
@@ -232,7 +232,7 @@ front_is_played limits w i s steps before e said after house l =
       plays = λ moments none. link_plays limits w i s l.got l.front texts.texts l.replied.readings steps house texts.are moments l.replied.ran none;
     }
 
-front_ended : (limits : Limits) (w : World) (i : ℕ) (s : State) (steps : List (Did State)) (said : List ℕ) (before stood after : LinkView) → after ≡ record stood { stands = false }
+pub front_ended : (limits : Limits) (w : World) (i : ℕ) (s : State) (steps : List (Did State)) (said : List ℕ) (before stood after : LinkView) → after ≡ record stood { stands = false }
     → FrontIsPlayed limits w i s steps said before stood → FrontIsPlayed limits w i s steps said before after
 front_ended limits w i s steps said before stood after is p = subst (λ (v : LinkView). FrontIsPlayed limits w i s steps said before v) (sym is) (record {
   got = p.got;
@@ -273,12 +273,12 @@ on_last_of f (y ∷ []) x = refl
 on_last_of f (y ∷ z ∷ xs) x = ap (λ (l : List Session). y ∷ l) (on_last_of f (z ∷ xs) x)
 
 -- the last link, on which these bytes were received, behind those before it
-record TellsLast (before after : LinkView) (got : List ℕ) (ss : List Session) : Type 0 where
-  earlier : List Session
-  last : Session
-  were : before.sessions ≡ Some earlier
-  are : ss ≡ earlier ++ last ∷ []
-  bytes : last.received ≡ got
+pub record TellsLast (before after : LinkView) (got : List ℕ) (ss : List Session) : Type 0 where
+  pub earlier : List Session
+  pub last : Session
+  pub were : before.sessions ≡ Some earlier
+  pub are : ss ≡ earlier ++ last ∷ []
+  pub bytes : last.received ≡ got
 
 -- what a link does to the sessions: a list is changed at its last element
 one_more : (before after : LinkView) (got : List ℕ) (f : Session → Session) → (f fresh).received ≡ got → (o : Option (List Session)) → before.sessions ≡ o → (ss : List Session)
@@ -293,7 +293,7 @@ mapped_last g x (Some rs) = ap some (on_last_of g rs x)
     some : List Session → Option (List Session)
     some l = Some l
 
-tells_last : (between after : LinkView) (got : List ℕ) (steps : List (Did State)) → IsHeard got steps (next_taken between) after → (ss : List Session) → after.sessions ≡ Some ss → TellsLast between after got ss
+pub tells_last : (between after : LinkView) (got : List ℕ) (steps : List (Did State)) → IsHeard got steps (next_taken between) after → (ss : List Session) → after.sessions ≡ Some ss → TellsLast between after got ss
 tells_last between after got steps heard ss is = elim heard [
   | inl a ↦ one_more between after got (λ x. send (sent_of steps) (hear got x)) refl between.sessions refl ss
       (sym (ap (option_map (on_last (send (sent_of steps)))) (mapped_last (hear got) fresh between.sessions) ∙ mapped_last (send (sent_of steps)) (hear got fresh) between.sessions) ∙ sym a ∙ is)
@@ -306,7 +306,7 @@ tells_front between after got said steps heard ss is =
     one_more between after got (λ x. send said (send (sent_of steps) (hear got x))) refl between.sessions refl ss
     (sym (ap (option_map (on_last (send said))) (ap (option_map (on_last (send (sent_of steps)))) (mapped_last (hear got) fresh between.sessions) ∙ mapped_last (send (sent_of steps)) (hear got fresh) between.sessions) ∙ mapped_last (send said) (send (sent_of steps) (hear got fresh)) between.sessions) ∙ sym heard ∙ is)
 
-grows_by : (between after : LinkView) (got : List ℕ) → ((ss : List Session) → after.sessions ≡ Some ss → TellsLast between after got ss) → Grow between after
+pub grows_by : (between after : LinkView) (got : List ℕ) → ((ss : List Session) → after.sessions ≡ Some ss → TellsLast between after got ss) → Grow between after
 grows_by between after got last ss is = let t = last ss is in (t.earlier, t.last ∷ [], t.were, t.are)
 
 texts_received : (between after : LinkView) (got : List ℕ) (items : List Item) (texts : List (List ℕ)) → AreTexts got items texts → ((ss : List Session) → after.sessions ≡ Some ss → TellsLast between after got ss) → AreReceived texts after
@@ -354,7 +354,7 @@ front_of limits s bytes (item ∷ items) (text ∷ texts) (r ∷ readings) (e �
     }
 
 -- two ways to part a list
-parts : {X : Type 0} (first last done rest : List X) → first ++ last ≡ done ++ rest → ((m : List X) × (first ≡ done ++ m)) ⊎ ((m : List X) × (done ≡ first ++ m) × (last ≡ m ++ rest))
+pub parts : {X : Type 0} (first last done rest : List X) → first ++ last ≡ done ++ rest → ((m : List X) × (first ≡ done ++ m)) ⊎ ((m : List X) × (done ≡ first ++ m) × (last ≡ m ++ rest))
 parts [] last done rest is = inr (done, refl, is)
 parts {X} (x ∷ first) last [] rest is = inl (x ∷ first, refl)
 parts {X} (x ∷ first) last (y ∷ done) rest is =
@@ -366,7 +366,7 @@ parts {X} (x ∷ first) last (y ∷ done) rest is =
     ]
 
 -- a first part of the steps on a link leads somewhere
-link_front : (limits : Limits) (w : World) (i : ℕ) (s : State) (steps : List (Did State)) (between after : LinkView) → slice_get w.houses i ≡ Some s → LinkIsPlayed limits w i s steps (next_taken between) after → TellsMoments after
+pub link_front : (limits : Limits) (w : World) (i : ℕ) (s : State) (steps : List (Did State)) (between after : LinkView) → slice_get w.houses i ≡ Some s → LinkIsPlayed limits w i s steps (next_taken between) after → TellsMoments after
     → (done rest : List (Did State)) → steps ≡ done ++ rest → Leads limits w i (state_after s done) after
 link_front limits w i s steps between after house p tells done rest is =
     let f = front_of limits s p.got p.items p.texts p.readings p.whole done rest p.of_bytes (p.moments tells) p.ran (subst (λ (ds : List (Did State)). AreSent ds p.whole) is p.sent) in
@@ -377,7 +377,7 @@ link_front limits w i s steps between after house p tells done rest is =
       replies = replies_of f.whole;
       plays = x.1;
       received = texts_received between after p.got f.items f.texts f.are (tells_last between after p.got steps p.heard);
-      serving = x.2;
+      kinds = x.2;
     })
 
 link_grows : (limits : Limits) (w : World) (i : ℕ) (s : State) (steps : List (Did State)) (between after : LinkView) → LinkIsPlayed limits w i s steps (next_taken between) after → Grow between after
@@ -387,12 +387,12 @@ link_grows limits w i s steps between after p = grows_by between after p.got (te
 one_house : State → World
 one_house s = record { houses = s ∷ []; wallets = []; messages = []; replies = [] }
 
-grows_after : (limits : Limits) (s : State) (steps : List (Did State)) (between after : LinkView) → HadLink (Step limits) OfLinks steps s (next_taken between) after → Grow between after
+pub grows_after : (limits : Limits) (s : State) (steps : List (Did State)) (between after : LinkView) → HadLink (Step limits) OfLinks steps s (next_taken between) after → Grow between after
 unfolding one_house
 grows_after limits s steps between after had = link_grows limits (one_house s) 0 s steps between after (link_is_schedule limits (one_house s) 0 s steps (next_taken between) after refl had)
 
 fronts_lead : (limits : Limits) (i n : ℕ) (s : State) (steps : List (Did State)) (before after : LinkView) → HadLinks (Step limits) OfLinks n steps s before after → FrontsLead limits i s steps after
-fronts_lead limits i zero s steps before after had [] rest is w house tells = leads_none limits w i s after house
+fronts_lead limits i zero s steps before after had [] rest is w house tells = leads_none IsOfServing limits w i s after house
 fronts_lead limits i zero s steps before after had (d ∷ done) rest is w house tells = absurd (let none : [] ≡ d ∷ (done ++ rest) = sym had.0 ∙ is in cc)
 fronts_lead limits i (suc n) s steps before after had done rest is w house tells =
     let first = had.0 in
@@ -402,11 +402,11 @@ fronts_lead limits i (suc n) s steps before after had done rest is w house tells
     let told = same_moments between (next_taken between) refl (moments_before limits (state_after s first) last (next_taken between) after link tells) in
     let grow = grows_after limits (state_after s first) last between after link in
     elim (parts first last done rest (sym had.3 ∙ is)) [
-      | inl a ↦ leads_on limits w i s (state_after s done) (state_after s done) between after grow house (fronts_lead limits i n s first before between had.4 done a.0 a.1 w house told) (λ x there. leads_none limits x i (state_after s done) after there)
+      | inl a ↦ leads_on IsOfServing limits w i s (state_after s done) (state_after s done) between after grow house (fronts_lead limits i n s first before between had.4 done a.0 a.1 w house told) (λ x there. leads_none IsOfServing limits x i (state_after s done) after there)
       | inr b ↦
           let m = b.0 in
           let here = fronts_lead limits i n s first before between had.4 first [] (sym (append-nil first)) w house told in
-          let both = leads_on limits w i s (state_after s first) (state_after (state_after s first) m) between after grow house here (λ x there.
+          let both = leads_on IsOfServing limits w i s (state_after s first) (state_after (state_after s first) m) between after grow house here (λ x there.
           link_front limits x i (state_after s first) last between after there (link_is_schedule limits x i (state_after s first) last (next_taken between) after there link) tells m rest b.2) in
           subst (λ (t : State). Leads limits w i t after) (sym (ap (state_after s) b.1 ∙ state_after-append s first m)) both
     ]
@@ -414,12 +414,12 @@ fronts_lead limits i (suc n) s steps before after had done rest is w house tells
 pub all_fronts_lead : AllFrontsLead
 all_fronts_lead limits i links n s steps before after all done rest is w house tells = elim all [
   | inl a ↦ fronts_lead limits i n s steps before after a.1 done rest is w house tells
-  | inr b ↦ leads_same limits w i (state_after s done) b.1.0 after (ap sessions_of b.1.2) (fronts_lead limits i n s steps before b.1.0 b.1.1 done rest is w house (same_moments b.1.0 after (ap (λ (v : LinkView). v.readings) b.1.2) tells))
+  | inr b ↦ leads_same IsOfServing limits w i (state_after s done) b.1.0 after (ap sessions_of b.1.2) (fronts_lead limits i n s steps before b.1.0 b.1.1 done rest is w house (same_moments b.1.0 after (ap (λ (v : LinkView). v.readings) b.1.2) tells))
 ]
 
 pub some_fronts_lead : SomeFrontsLead
 some_fronts_lead limits i links s steps before after x done rest is w house tells =
-    leads_same limits w i (state_after s done) x.between after (ap sessions_of x.fault.same) (fronts_lead limits i x.n s steps before x.between x.links_had done rest is w house (same_moments x.between after (ap (λ (v : LinkView). v.readings) x.fault.same) tells))
+    leads_same IsOfServing limits w i (state_after s done) x.between after (ap sessions_of x.fault.same) (fronts_lead limits i x.n s steps before x.between x.links_had done rest is w house (same_moments x.between after (ap (λ (v : LinkView). v.readings) x.fault.same) tells))
 
 pub all_lead : AllLead
 all_lead limits i links n s steps before after all w house tells = all_fronts_lead limits i links n s steps before after all steps [] (sym (append-nil steps)) w house tells
@@ -427,17 +427,37 @@ all_lead limits i links n s steps before after all w house tells = all_fronts_le
 pub some_lead : SomeLead
 some_lead limits i links s steps before after x w house tells = some_fronts_lead limits i links s steps before after x steps [] (sym (append-nil steps)) w house tells
 
+-- ---- the link on which the disk failed
+
+-- moments that are told after it were told before it
+pub doubt_tells : (limits : Limits) (u : State) (last : List (Did State)) (between stopped after : LinkView) (e : Entry) (said : List ℕ) → InDoubtLink limits last u (next_taken between) e said stopped
+    → after ≡ record stopped { stands = false } → TellsMoments after → TellsMoments between
+doubt_tells limits u last between stopped after e said l ended' tells =
+    let here : TellsMoments stopped = same_moments stopped after (ap (λ (v : LinkView). v.readings) ended') tells in
+    let q = l.in_doubt.read here.0 here.1 in
+    let q2 = l.replied.read q.0 q.1 in
+    (q2.0, q2.1, front q2.0 l.replied.readings (subst AreMoments q2.2 (front q.0 (l.in_doubt.reading ∷ []) (subst AreMoments q.2 here.2))))
+
+pub doubt_grows : (limits : Limits) (u : State) (last : List (Did State)) (between stopped after : LinkView) (e : Entry) (said : List ℕ) → InDoubtLink limits last u (next_taken between) e said stopped
+    → after ≡ record stopped { stands = false } → Grow between after
+doubt_grows limits u last between stopped after e said l ended' =
+    let heard : after.sessions ≡ (after_send said (after_send (sent_of last) (after_recv l.got (next_taken between)))).sessions = ap sessions_of ended' ∙ sends_sessions _ said _ stopped l.in_doubt.sent in
+    grows_by between after l.got (tells_front between after l.got said last heard)
+
+-- the steps before the request in doubt lead somewhere
+pub front_leads : (limits : Limits) (w : World) (i : ℕ) (u : State) (last : List (Did State)) (between stopped after : LinkView) (e : Entry) (said : List ℕ) → slice_get w.houses i ≡ Some u → InDoubtLink limits last u (next_taken between) e said stopped
+    → after ≡ record stopped { stands = false } → TellsMoments after → Leads limits w i (state_after u last) after
+front_leads limits w i u last between stopped after e said house l ended' tells =
+    let f = front_ended limits w i u last said (next_taken between) stopped after ended' (front_is_played limits w i u last (next_taken between) e said stopped house l) in
+    let z = link_leads limits w i u f.got f.items f.texts f.readings last house f.of_bytes (f.moments tells) f.ran in
+    record { events = z.0; texts = f.texts; replies = replies_of last; plays = z.1; received = texts_received between after f.got f.items f.texts f.of_bytes (tells_front between after f.got said last f.heard); kinds = z.2 }
+
 pub first_lead : FirstLead
-unfolding first_are_played
 first_lead limits i links s steps before after e said x w house tells =
-    let p = first_are_played limits i links s steps before after e said x in
-    let a = fronts_lead limits i x.n s x.front before x.between x.links_had x.front [] (sym (append-nil x.front)) w house (p.tells tells) in
-    let at = p.here (after_link w i (state_after s x.front) a.texts a.replies) (set_here w.houses i s (state_after s x.front) house) in
-    let grow = grows_by x.between after at.got (tells_front x.between after at.got said x.last at.heard) in
-    let b = leads_on limits w i s (state_after s x.front) (state_after (state_after s x.front) x.last) x.between after grow house a (λ y there.
-    let f = p.here y there in
-    let z = link_leads limits y i (state_after s x.front) f.got f.items f.texts f.readings x.last there f.of_bytes (f.moments tells) f.ran in
-    record { events = z.0; texts = f.texts; replies = replies_of x.last; plays = z.1; received = texts_received x.between after f.got f.items f.texts f.of_bytes (tells_front x.between after f.got said x.last f.heard); serving = z.2 }) in
+    let u : State = state_after s x.front in
+    let a = fronts_lead limits i x.n s x.front before x.between x.links_had x.front [] (sym (append-nil x.front)) w house (doubt_tells limits u x.last x.between x.stopped after e said x.last_link x.ended tells) in
+    let grow = doubt_grows limits u x.last x.between x.stopped after e said x.last_link x.ended in
+    let b = leads_on IsOfServing limits w i s u (state_after u x.last) x.between after grow house a (λ y there. front_leads limits y i u x.last x.between x.stopped after e said there x.last_link x.ended tells) in
     subst (λ (t : State). Leads limits w i t after) (sym (ap (state_after s) x.steps_are ∙ state_after-append s x.front x.last)) b
 
 -- ---- with the request in doubt
@@ -446,7 +466,7 @@ first_lead limits i links s steps before after e said x w house tells =
 doubt_step : State → ℕ → Entry → Did State
 doubt_step u reading e = record { sent = reply_of (u.history ++ e ∷ []) (length u.history); after = entered (raised u reading) e }
 
-doubt_link : (limits : Limits) (w : World) (i : ℕ) (s : State) (steps : List (Did State)) (between stopped after : LinkView) (e : Entry) (said : List ℕ) → slice_get w.houses i ≡ Some s → InDoubtLink limits steps s (next_taken between) e said stopped
+pub doubt_link : (limits : Limits) (w : World) (i : ℕ) (s : State) (steps : List (Did State)) (between stopped after : LinkView) (e : Entry) (said : List ℕ) → slice_get w.houses i ≡ Some s → InDoubtLink limits steps s (next_taken between) e said stopped
     → after ≡ record stopped { stands = false } → TellsMoments after → (t : State) × (t.history ≡ (state_after s steps).history ++ e ∷ []) × Leads limits w i t after
 unfolding doubt_step
 doubt_link limits w i s steps between stopped after e said house l ended' tells =
@@ -469,24 +489,19 @@ doubt_link limits w i s steps between stopped after e said house l ended' tells 
         replies = replies_of (steps ++ d ∷ []);
         plays = x.1;
         received = texts_received between after l.got (l.front ++ item ∷ []) texts.texts texts.are (tells_front between after l.got said steps heard);
-        serving = x.2;
+        kinds = x.2;
       }),
     )
 
 pub doubt_leads : DoubtLeads
 doubt_leads limits i links s steps before after e said x w house tells =
-    let l = x.last_link in
-    let here : TellsMoments x.stopped = same_moments x.stopped after (ap (λ (v : LinkView). v.readings) x.ended) tells in
-    let q = l.in_doubt.read here.0 here.1 in
-    let q2 = l.replied.read q.0 q.1 in
-    let told : TellsMoments x.between = (q2.0, q2.1, front q2.0 l.replied.readings (subst AreMoments q2.2 (front q.0 (l.in_doubt.reading ∷ []) (subst AreMoments q.2 here.2)))) in
-    let a = fronts_lead limits i x.n s x.front before x.between x.links_had x.front [] (sym (append-nil x.front)) w house told in
-    let y : World = after_link w i (state_after s x.front) a.texts a.replies in
-    let there = set_here w.houses i s (state_after s x.front) house in
-    let heard : after.sessions ≡ (after_send said (after_send (sent_of x.last) (after_recv l.got (next_taken x.between)))).sessions = ap sessions_of x.ended ∙ sends_sessions _ said _ x.stopped l.in_doubt.sent in
-    let grow = grows_by x.between after l.got (tells_front x.between after l.got said x.last heard) in
-    let z = doubt_link limits y i (state_after s x.front) x.last x.between x.stopped after e said there l x.ended tells in (
+    let u : State = state_after s x.front in
+    let a = fronts_lead limits i x.n s x.front before x.between x.links_had x.front [] (sym (append-nil x.front)) w house (doubt_tells limits u x.last x.between x.stopped after e said x.last_link x.ended tells) in
+    let y : World = after_link w i u a.texts a.replies in
+    let there = set_here w.houses i s u house in
+    let grow = doubt_grows limits u x.last x.between x.stopped after e said x.last_link x.ended in
+    let z = doubt_link limits y i u x.last x.between x.stopped after e said there x.last_link x.ended tells in (
       z.0,
       z.1 ∙ ap (λ (t : State). t.history ++ e ∷ []) (sym (ap (state_after s) x.steps_are ∙ state_after-append s x.front x.last)),
-      leads_from limits w i s (state_after s x.front) z.0 x.between after grow house a z.2,
+      leads_from IsOfServing limits w i s u z.0 x.between after grow house a z.2,
     )

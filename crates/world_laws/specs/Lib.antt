@@ -1,3 +1,4 @@
+pub mod Doors
 pub mod Links
 pub mod Requests
 pub mod Runs

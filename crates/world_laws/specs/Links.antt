@@ -99,15 +99,19 @@ IsOfServing i (Deliver m house reading) = house ≡ i
 IsOfServing i (Read house reading) = house ≡ i
 IsOfServing i _ = ⊥
 
--- Events of serving lead from a world to one that has the house in this state, and in which no other house and no wallet is another. The
--- messages that they add are texts that were received on these links.
-pub record Leads (limits : Limits) (w : World) (i : ℕ) (t : State) (links : LinkView) : Type 0 where
+-- Events of some kinds at house i lead from a world to one that has the house in this state, and in which no other house and no wallet is
+-- another. The messages that they add are texts that were received on these links.
+pub record LeadsBy (Is : ℕ → Event → Type 0) (limits : Limits) (w : World) (i : ℕ) (t : State) (links : LinkView) : Type 0 where
   pub events : List Event
   pub texts : List (List ℕ)
   pub replies : List (List ℕ)
   pub plays : Plays limits w events (after_link w i t texts replies)
   pub received : AreReceived texts links
-  pub serving : AllByRecursion (IsOfServing i) events
+  pub kinds : AllByRecursion (Is i) events
+
+-- and events of serving
+abbrev pub Leads : Limits → World → ℕ → State → LinkView → Type 0
+Leads limits w i t links = LeadsBy IsOfServing limits w i t links
 
 -- So do all links that were served, one after another, whatever memory was refused meanwhile.
 abbrev pub AllLead : Type 0

@@ -18,9 +18,9 @@ use Rattle.mc_requests.specs.declared.limits.TheConstants.Limits.{FULL}
 use Rattle.world_model.specs.Worlds.{World, Event, Ask, Again, Tell, Return, Restart, CanBeAsked, Plays}
 use Rattle.world_laws.specs.Links.{TellsMoments, after_link, AreReceived, IsOfServing}
 
--- From this world on house i begins a new run, and one schedule of it, in which nobody else moves, leaves it with this history. What
--- is sent in it was received on these links.
-pub record IsRun (w : World) (i : ℕ) (g : History) (links : LinkView) : Type 0 where
+-- From this world on house i begins a new run, and one schedule of events of some kinds, in which nobody else moves, leaves it with this
+-- history. What is sent in it was received on these links.
+pub record IsRunBy (Is : ℕ → Event → Type 0) (w : World) (i : ℕ) (g : History) (links : LinkView) : Type 0 where
   pub u : State
   pub has : u.history ≡ g
   pub events : List Event
@@ -28,18 +28,25 @@ pub record IsRun (w : World) (i : ℕ) (g : History) (links : LinkView) : Type 0
   pub replies : List (List ℕ)
   pub plays : Plays full w (Restart i ∷ events) (after_link w i u texts replies)
   pub received : AreReceived texts links
-  pub serving : AllByRecursion (IsOfServing i) events
+  pub kinds : AllByRecursion (Is i) events
 
--- what a crash may leave: what it could have left before, with nothing sent; or what a run encodes
-abbrev pub LeavesRun : World → ℕ → LinkView → DiskView → List ℕ → List ℕ → Type 0
-LeavesRun w i links before image sent = (before.leaves image × (sent ≡ before.aside)) ⊎ ((g : History) × IsRun w i g links × Encodes g image)
+-- what a crash may leave: what it could have left before, with nothing sent; or what such a run encodes
+abbrev pub LeavesRunBy : (ℕ → Event → Type 0) → World → ℕ → LinkView → DiskView → List ℕ → List ℕ → Type 0
+LeavesRunBy Is w i links before image sent = (before.leaves image × (sent ≡ before.aside)) ⊎ ((g : History) × IsRunBy Is w i g links × Encodes g image)
 
--- The disk encodes the history that a run leaves, and each crash meanwhile leaves that of a run.
-pub record RunsAsHouse {O : Type 0} (link : O → LinkView) (disk : O → DiskView) (w : World) (i : ℕ) (a b : O) : Type 0 where
+-- The disk encodes the history that such a run leaves, and each crash meanwhile leaves that of one.
+pub record RunsBy {O : Type 0} (Is : ℕ → Event → Type 0) (link : O → LinkView) (disk : O → DiskView) (w : World) (i : ℕ) (a b : O) : Type 0 where
   pub g : History
   pub left : EncodesLawful (disk b) g
-  pub run : IsRun w i g (link b)
-  pub crash : Ran (disk a) (disk b) (LeavesRun w i (link b) (disk a))
+  pub run : IsRunBy Is w i g (link b)
+  pub crash : Ran (disk a) (disk b) (LeavesRunBy Is w i (link b) (disk a))
+
+-- and of events of serving
+abbrev pub IsRun : World → ℕ → History → LinkView → Type 0
+IsRun w i g links = IsRunBy IsOfServing w i g links
+
+abbrev pub RunsAsHouse : {O : Type 0} → (O → LinkView) → (O → DiskView) → World → ℕ → O → O → Type 0
+RunsAsHouse link disk w i a b = RunsBy IsOfServing link disk w i a b
 
 -- the links were served, or the next one could not be taken
 abbrev pub HasServed : Status → Type 0
