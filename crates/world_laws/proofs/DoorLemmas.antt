@@ -1,18 +1,15 @@
 -- Links of a house with a door for its operator, as a schedule.
-use Rattle.std.proofs.Common.{◌≡◌, ◌⊎◌, inl, inr, ℕ, zero, suc, ◌<◌, ◌^◌, max, true, false, List, [], ◌∷◌, ◌++◌, length, map, Option, Some, None, refl, sym, ap, subst, ◌∙◌, append-nil, append_assoc, arith, slice_get}
+use Rattle.std.proofs.Common.{◌≡◌, ◌⊎◌, inl, inr, ℕ, zero, suc, ◌<◌, ◌^◌, max, true, false, List, [], ◌∷◌, ◌++◌, Option, Some, refl, sym, ap, subst, ◌∙◌, append-nil, append_assoc, arith, slice_get}
 use Rattle.std.specs.Prelude.{slice_set}
 use Rattle.std.specs.List.{AllByRecursion}
-use Rattle.std.proofs.lemmas.List.{append_cancel_left}
 use Rattle.mc_outside.specs.DiskView.{DiskView}
-use Rattle.mc_outside.specs.LinkView.{LinkView, Session, IsWhose, next_taken, after_recv, after_send, after_eof, Failed}
+use Rattle.mc_outside.specs.LinkView.{LinkView, IsWhose, next_taken, after_recv, after_send, after_eof}
 use Rattle.mc_outside.proofs.Sessions.{sent_none}
 use Rattle.mc_records.specs.Entry.{Entry, moment_of, payload}
-use Rattle.ledger_model.specs.Histories.{History, time}
+use Rattle.ledger_model.specs.Histories.{History}
 use Rattle.ledger_model.specs.Houses.{site_kind}
-use Rattle.ledger_model.specs.Lawful.{IsLawful}
 use Rattle.scrip_journal.specs.Layout.{Encodes}
 use Rattle.scrip_journal.proofs.Unique.{one_history}
-use Rattle.command_status.specs.declared.status.Status.{Status}
 use Rattle.command_status.specs.declared.status.Status.TheVariants as statuses
 use Rattle.millicent_http.specs.declared.clock.Clock.TheVariants.{OfLinks}
 use Rattle.millicent_http.specs.Inputs.{Receives}
@@ -20,24 +17,20 @@ use Rattle.millicent_http.specs.Items.{Item}
 use Rattle.millicent_http.specs.Steps.{Did, sent_of, state_after, Run}
 use Rattle.millicent_http.specs.Courses.{AreRead, HadLink, with_readings}
 use Rattle.millicent_http.proofs.StepLemmas.{state_after-append}
-use Rattle.link_turns.specs.Orders.{IsEither}
-use Rattle.link_turns.specs.Sending.{Sends}
 use Rattle.house_core.specs.Session.{State, raised, entered, Step}
 use Rattle.house_serving.specs.InDoubt.{InDoubtLink}
 use Rattle.operator_command.specs.Operations.{full}
 use Rattle.site_commands.specs.Serving.{EncodesLawful}
 use Rattle.house_doors.specs.declared.command.TheConstants.{MOST_TOLD}
-use Rattle.house_doors.specs.Commands.{Endings, Doubts, DoorStep, CommandAnswered, CommandServed, CommandLost, CommandInDoubt, HadCommand, DoubtsCommand}
+use Rattle.house_doors.specs.Commands.{Endings, Doubts, DoorStep, CommandServed, CommandLost, HadCommand, DoubtsCommand}
 use Rattle.house_doors.specs.Links.{HadLinksBy, ServedAllBy, ServedSomeBy, InDoubtBy, HadEither, DoubtsEither}
-use Rattle.door_commands.specs.Open.{OpensLinksOf}
-use Rattle.world_model.specs.Worlds.{World, Message, Event, Enter, Read, Forge, Tell, Deliver, Ask, Again, Return, Restart, clamped, opens, with_house, Happens, Plays}
+use Rattle.world_model.specs.Worlds.{World, Message, Event, Enter, Read, opens, with_house, Happens, Plays}
 use Rattle.world_model.proofs.Lists.{set_here}
-use Rattle.world_laws.specs.Links.{AreMoments, TellsMoments, IsHeard, LinkIsPlayed, FrontIsPlayed, IsOfServing, LeadsBy, Leads, after_link}
-use Rattle.world_laws.specs.Runs.{IsRunBy, RunsBy}
-use Rattle.world_laws.specs.Doors.{IsOperators, AddsOperators, AllAddOperators, DoubtsOperators, StandsInBook, IsCommandOf, AreCommandsOf, CommandIsPlayed, EitherIsPlayed, EitherIsSchedule, OpenLinksArePlayed, OpenArePlayed, DoubtIsPlayed, FirstOpenPlayed, OpenLinksPlay, IsOfDoor, OpenFrontsLead, OpenLinksLead, OpeningIsARun, OpeningHalts}
+use Rattle.world_laws.specs.Links.{AreMoments, TellsMoments, IsHeard, FrontIsPlayed, IsOfServing, LeadsBy, Leads, after_link}
+use Rattle.world_laws.specs.Doors.{IsOperators, AllAddOperators, DoubtsOperators, StandsInBook, IsCommandOf, AreCommandsOf, CommandIsPlayed, EitherIsSchedule, OpenLinksArePlayed, OpenArePlayed, DoubtIsPlayed, FirstOpenPlayed, OpenLinksPlay, IsOfDoor, OpenFrontsLead, OpenLinksLead, OpeningIsARun, OpeningHalts}
 use Rattle.world_laws.proofs.BookLemmas.{entry_of_book, front_of_book, whole_book, lawful_before}
-use Rattle.world_laws.proofs.Delivering.{Grow, set_same, moment_is, nothing_after, leads_none, leads_on, leads_from, leads_same, leads_weaker}
-use Rattle.world_laws.proofs.LinkLemmas.{front, these_moments, moments_read, same_moments, sessions_of, sends_sessions, link_is_schedule, tells_last, grows_by, moments_before, link_front, grows_after, parts, doubt_tells, doubt_grows, front_is_played, front_ended, front_leads, doubt_link}
+use Rattle.world_laws.proofs.Delivering.{Grow, set_same, moment_is, leads_none, leads_on, leads_from, leads_same, leads_weaker}
+use Rattle.world_laws.proofs.LinkLemmas.{these_moments, moments_read, same_moments, sessions_of, sends_sessions, link_is_schedule, tells_last, grows_by, moments_before, link_front, grows_after, parts, doubt_tells, doubt_grows, front_is_played, front_ended, front_leads, doubt_link}
 use Rattle.world_laws.proofs.RunLemmas.{AddsOne, Ones, step_one, link_one, ones_on, ones_none, opened_as, run_of, served_run}
 
 -- ---- a command

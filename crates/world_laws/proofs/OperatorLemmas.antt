@@ -1,26 +1,25 @@
 -- What operators' commands add: one entry at most, of a command and of its time.
-use Rattle.std.proofs.Common.{◌≡◌, ◌⊎◌, inl, inr, ℕ, ◌+◌, ◌<◌, Bool, true, false, List, [], ◌∷◌, ◌++◌, refl, sym, subst, Option, Some, None, Result, Ok, Err}
-use Rattle.std.specs.Prelude.{All, if◌then◌else◌, nat_lt, ◌==◌, is_some, bytes_eq, unwrap_or, option_map, find, length}
+use Rattle.std.proofs.Common.{◌≡◌, inl, inr, ℕ, ◌+◌, ◌<◌, Bool, true, false, List, [], ◌∷◌, ◌++◌, refl, sym, subst, Option, Some, None, Result, Ok, Err}
+use Rattle.std.specs.Prelude.{All, if◌then◌else◌, nat_lt, ◌==◌, is_some, bytes_eq, unwrap_or, option_map, find}
 use Rattle.std.specs.List.{AllByRecursion}
 use Rattle.std.proofs.lemmas.List.Elements.{All-from_recursion}
 use Rattle.scrip_form.specs.Scrip.{Scrip}
 use Rattle.scrip_form.specs.Issuing.{Issuing, epoch}
 use Rattle.mc_requests.specs.declared.refusal.Refusal.{Refusal}
 use Rattle.mc_requests.specs.declared.refusal.Refusal.TheVariants as refusals
-use Rattle.mc_records.specs.Entry.{Entry, Held, Account, AddTerms, Deposit, Goods, Licence, Mint, Stock, Switch, Upgrade, Withdraw}
+use Rattle.mc_records.specs.Entry.{Entry, Held, Account, Deposit, Goods, Stock, Switch, Upgrade, Withdraw}
 use Rattle.mc_records.specs.Chains.{chain, has_switch}
 use Rattle.mc_records.specs.declared.ranges.TheConstants.{MOST_CONTENTS}
 use Rattle.ledger_model.specs.declared.numbers.TheConstants.{MOST_IN_FORCE}
 use Rattle.ledger_model.specs.Histories.{History}
 use Rattle.ledger_model.specs.Houses.{site_name, terms_in, upgrade_in}
-use Rattle.ledger_model.specs.Goods.{goods_in, goods_kind, goods_contents, in_force}
+use Rattle.ledger_model.specs.Goods.{goods_in, in_force}
 use Rattle.ledger_model.specs.Accounts.{key_in}
 use Rattle.ledger_model.specs.Stock.{licence_in, stock_ids, upgrade_terms}
 use Rattle.piece_lines.specs.PieceLines.{LineFits, IsTold}
 use Rattle.piece_lines.specs.Rules.{is_stock_of}
 use Rattle.piece_lines.proofs.LineLaws.{input_told}
 use Rattle.issuer_terms.specs.Terms.{are_same_terms}
-use Rattle.licence_lines.specs.Licences as lines
 use Rattle.command_status.specs.declared.status.Status.{Status}
 use Rattle.command_status.specs.declared.status.Status.TheVariants as statuses
 use Rattle.house_core.specs.Tasks.{Task, Add, Stays, Refuse, after, switch_task}
@@ -42,7 +41,7 @@ use Rattle.mc_words.specs.declared.command.Command.{Command}
 use Rattle.mc_words.specs.declared.command.Command.TheVariants as commands
 use Rattle.vendor_commands.specs.Operations as vendors
 use Rattle.broker_commands.specs.Operations as brokers
-use Rattle.house_doors.specs.Performing.{EndsAs, DoubtsAs}
+use Rattle.house_doors.specs.Performing.{EndsAs}
 use Rattle.door_commands.specs.Told.{BrokerObeys, BrokerDoubts, VendorObeys, VendorDoubts, EndsBy, DoubtsBy}
 use Rattle.world_laws.specs.Doors.{IsOperators, AddsOperators, AllAddOperators, DoubtsOperators}
 

@@ -1,6 +1,5 @@
 -- Links of a site with a door for its operator, as events of a schedule: a command is Enter of its entry, or enters none.
 use Rattle.std.specs.Prelude.{◌≡◌, ◌⊎◌, ℕ, zero, suc, true, false, List, [], ◌∷◌, ◌++◌, Some, slice_get}
-use Rattle.std.specs.List.{AllByRecursion}
 use Rattle.mc_outside.specs.DiskView.{DiskView}
 use Rattle.mc_outside.specs.LinkView.{LinkView, IsWhose, next_taken, after_recv, after_send, after_eof}
 use Rattle.mc_records.specs.Entry.{Entry, moment_of, payload}
