@@ -98,6 +98,8 @@ vendor_is (operations.Mint m) input h t task asks = mint_is h t m.reference m.co
 vendor_is (operations.Upgrade u) input h t task asks =
     by_equality t task (upgrade_task h t (site_name h) u.issuer u.from) (upgraded_is t (site_name h) u.issuer u.from (upgrade_terms h (site_name h) u.issuer) (upgrade_in h (site_name h) u.issuer)) asks
 vendor_is (operations.Chain c) input h t task asks = by_equality t task (switch_task h t) (switch_is h t) asks
+vendor_is (operations.List l) input h t task asks = by_equality t task Stays tt asks
+vendor_is (operations.Status l) input h t task asks = by_equality t task Stays tt asks
 
 -- ---- a broker's
 
@@ -164,6 +166,8 @@ broker_is (broker_operations.Upgrade u) input h t task asks =
     by_equality t task (desks.upgrade_licence_task h t u.vendor u.from)
     (upgraded_is t u.vendor (moved_issuer h u.vendor) u.from (upgrade_terms h u.vendor (moved_issuer h u.vendor)) (upgrade_in h u.vendor (moved_issuer h u.vendor))) asks
 broker_is (broker_operations.Chain c) input h t task asks = by_equality t task (switch_task h t) (switch_is h t) asks
+broker_is (broker_operations.List l) input h t task asks = by_equality t task Stays tt asks
+broker_is (broker_operations.Status l) input h t task asks = by_equality t task Stays tt asks
 
 -- ---- how a command ends
 
