@@ -1,7 +1,7 @@
 #!/usr/bin/env python3
 """Tries `examples/systemd/change` and the unit beside it where there is no systemd: in a temporary folder with a `systemctl` of its own,
 which starts and stops the site by the ExecStart of the unit. A site with a door is changed while a customer pays, and is not stopped; one
-without a door, or for `statement`, is stopped and started again. A line for each look tells whether it holds; the status is 1 where one
+without a door, or for `statement`, is stopped and started again. The unit for a monitor is run beside. A line for each look tells whether it holds; the status is 1 where one
 does not."""
 import os
 import re
@@ -50,7 +50,7 @@ class Machine:
         self.write("bin/runuser", '#!/bin/bash\nshift 3\nexec "$@"\n')
         self.write("bin/systemctl", SYSTEMCTL % {"room": self.room, "listen": self.listen})
         self.write("change", self.placed((UNITS / "change").read_text()))
-        self.serve_by(self.exec_start())
+        self.serve_by(self.exec_start("millicent@.service"))
 
     def write(self, name, text):
         path = self.room / name
@@ -62,9 +62,9 @@ class Machine:
             text = text.replace(place, "%s/" % path if place.endswith("/") else str(path))
         return text
 
-    def exec_start(self):
+    def exec_start(self, unit):
         """The words of the unit's shell, as systemd reads them."""
-        unit = (UNITS / "millicent@.service").read_text()
+        unit = (UNITS / unit).read_text()
         words = re.search(r"ExecStart=/bin/sh -c '(.*?)'$", unit, re.S | re.M)[1].replace("\\\n", "").replace("\\\\", "\\")
         return self.placed(words.replace("%i", "news").replace("%%", "%").replace("$$", "$"))
 
@@ -93,6 +93,13 @@ class Machine:
         ran = subprocess.run([self.room / "change", "news", "-"], input=lines.encode(), stdout=subprocess.PIPE, stderr=subprocess.PIPE,
                              env={**os.environ, "PATH": path}, cwd=self.room)
         return ran.returncode, ran.stdout.decode(), ran.stderr.decode(), self.starts() - before
+
+    def status(self):
+        """What the unit for a monitor writes: its status, and the file."""
+        ran = subprocess.run(["sh", "-c", self.exec_start("millicent-status@.service")], stderr=subprocess.DEVNULL,
+                             env={**os.environ, "ROLE": "vendor", "TEXTS": str(self.room)})
+        path = self.room / "millicent-news.prom"
+        return ran.returncode, path.read_text() if path.exists() else ""
 
     def end(self):
         try:
@@ -131,6 +138,8 @@ def looks(machine):
     status, said, told, starts = machine.change(PRICES)
     yield "at its door, while a customer pays", (status, starts) == (0, 0) and said.startswith("goods /news/1 30\ngoods /o/1 5\nMS1|") \
         and said.endswith("\nnews: 3 of 3 commands, at its door\n") and not told
+    status, text = machine.status()
+    yield "a monitor is told meanwhile", status == 0 and re.search(r'^millicent_entries_total\{site="news\.example"\} \d+$', text, re.M)
     customer.ended.set()
     customer.join()
     yield "no link of the customer's was lost, of %d payments" % customer.paid, customer.paid > 0 and customer.lost == 0
@@ -145,11 +154,13 @@ def looks(machine):
     yield "for a statement it is stopped", (status, starts) == (7, 1) and said.startswith("goods /news/1 25\nrefused 71 ") \
         and "news: 1 of 2 commands, away for " in said
     machine.systemctl("stop", "millicent@news")
+    status, again = machine.status()
+    yield "then a monitor is not, and has what it was told before", status == 6 and again == text
     status, said, _, starts = machine.change("price /news/1 30")
     yield "one that is stopped, with its socket there still", (status, starts) == (0, 1) and "1 of 1 commands, away for " in said
     machine.systemctl("stop", "millicent@news")
     machine.door.unlink()
-    machine.serve_by(re.sub(r"--door \S+", "", machine.exec_start()))
+    machine.serve_by(re.sub(r"--door \S+", "", machine.exec_start("millicent@.service")))
     machine.start()
     status, said, _, starts = machine.change("price /news/1 30")
     yield "an older unit's, without a door", (status, starts) == (0, 1) and not machine.door.exists() and "1 of 1 commands, away for " in said
