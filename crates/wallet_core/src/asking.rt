@@ -1,11 +1,11 @@
 //! The request of what is asked.
 
-ghost use Rattle.std.specs.Prelude.{◌≡◌, ◌<◌, Some, IfOk, IfErr};
+ghost use Rattle.std.specs.Prelude.{◌≡◌, ◌<◌, ℕ, Some, Ok, IfOk, IfErr};
 ghost use Rattle.ledger_model.specs.Histories.{History};
 ghost use Rattle.wallet_model.specs.Asks.{chosen, paid_with, pend_entry};
 ghost use Rattle.wallet_model.specs.Follows.{WalletFollows};
 ghost use Rattle.wallet_book.specs.Book.{WalletRepresents};
-ghost use Rattle.wallet_book.specs.Choosing.{IsNoFunds};
+ghost use Rattle.wallet_book.specs.Choosing.{Chooses, IsNoFunds};
 ghost use Rattle.wallet_book.specs.Holdings.{IsSpelled, text_of};
 ghost use Rattle.wallet_core.specs.Asks.{asking_of, HasAmounts, Answers, pend_with_entry, PaysAt};
 ghost use Rattle.wallet_core.specs.Requests.{pending_view, pend_of};
@@ -99,10 +99,26 @@ fn paying(
     ensures ask { IfOk result (λ p. p.ask ≡ ask) }
     ensures refused { IfErr result IsNoFunds }
 {
-    let place = match book.choose(peer, limit) {
-        Ok(place) => place,
-        Err(refusal) => return Err(refusal),
-    };
+    match book.choose(peer, limit) {
+        Ok(place) => paying_from(book, place, ask, peer, target),
+        Err(refusal) => Err(refusal),
+    }
+}
+
+/// A request that pays with the piece of a place, which was chosen for it. `Err` comes only where no piece stands there.
+pub(crate) fn paying_from(
+    book: &WalletBook,
+    place: usize,
+    ask: u8,
+    peer: &Name,
+    target: &Target,
+) -> Result<WalletRequest, Refusal>
+    ensures exact { (h : History) (limit : ℕ) → WalletRepresents book.now h
+        → Chooses (chosen h book.now.time peer.now limit) (Ok place)
+        → Answers book.now.time (paid_with book.now.time ask peer.now target.now (chosen h book.now.time peer.now limit)) result }
+    ensures ask { IfOk result (λ p. p.ask ≡ ask) }
+    ensures refused { IfErr result IsNoFunds }
+{
     match book.holdings().get(place) {
         Some(holding) => Ok(with_piece(ask, peer, target, holding)),
         // What is chosen is one of the pieces.

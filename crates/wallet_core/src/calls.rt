@@ -1,13 +1,14 @@
 //! What a wallet takes, asks and settles.
 
-ghost use Rattle.std.specs.Prelude.{◌≡◌, ◌<◌, Ok, Some, IfOk, IfErr};
+ghost use Rattle.std.specs.Prelude.{◌≡◌, ◌<◌, ℕ, Ok, Some, IfOk, IfErr};
 ghost use Rattle.mc_records.specs.Entry.{Entry};
 ghost use Rattle.ledger_model.specs.Histories.{History};
-ghost use Rattle.wallet_model.specs.Asks.{pend_entry};
+ghost use Rattle.wallet_model.specs.Asks.{get, chosen, pend_entry};
 ghost use Rattle.wallet_model.specs.Follows.{WalletFollows};
 ghost use Rattle.wallet_model.specs.Requests.{Pending};
 ghost use Rattle.wallet_model.specs.Settling.{check_of, settlement};
 ghost use Rattle.reply_reader.specs.Seen.{received_of};
+ghost use Rattle.wallet_book.specs.Choosing.{Chooses};
 ghost use Rattle.wallet_book.specs.Kept.{kept_in};
 ghost use Rattle.wallet_core.specs.Asks.{asking_of, HasAmounts, PaysAt, pend_with_entry};
 ghost use Rattle.wallet_core.specs.Requests.{pending_view, pend_of};
@@ -18,6 +19,7 @@ ghost use Rattle.wallet_core.specs.Outcomes.{HandsBack, Performs, PerformsAfterM
 ghost use Rattle.wallet_core.specs.Answers.{TellsNumber, TellsCount, TellsOnly, Any, IsFull, MayTake, MayPend, MayCheck};
 ghost use Rattle.wallet_core.specs.Checking.{Checks, IsWritten};
 
+use crate::asking::paying_from;
 use crate::came::Came;
 use crate::checked::{Checked, has_its_piece};
 use crate::checking::check_came;
@@ -32,6 +34,7 @@ use mc_outside::Disk;
 use mc_records::Record;
 use mc_requests::Refusal;
 use reply_reader::ReplyRef;
+use scrip_form::{Name, Target};
 
 impl<D: Disk> Wallet<D> {
     /// Takes the pieces of 1 to 256 piece lines at the wallet's time, by one Got entry. Answers how many they are.
@@ -76,6 +79,23 @@ impl<D: Disk> Wallet<D> {
         match request_for(&self.book, ask) {
             Ok(request) => self.keep(&request),
             Err(refusal) => WalletOut::Refused(self, refusal),
+        }
+    }
+
+    /// Enters the request of a get at the wallet's time, with the piece of the place that `choose` named for it, so that it is not
+    /// chosen once more. Answers the number of the Pend entry. It is refused as `pend` is.
+    pub fn pend_chosen(self, place: usize, vendor: &Name, target: &Target) -> WalletOut<D, u64>
+        requires chosen { (h : History) → WalletStands D.disk self h
+            → (limit : ℕ) × Chooses (chosen h self.book.time vendor.now limit) (Ok place) }
+        ensures back { HandsBack D.disk D.disk_moved self result }
+        ensures exact { (h : History) (limit : ℕ) → WalletStands D.disk self h
+            → Chooses (chosen h self.book.time vendor.now limit) (Ok place)
+            → Performs D.disk self h (pend_entry h self.book.time (get vendor.now target.now limit)) (TellsNumber h) result }
+        ensures refused { TellsOnly MayPend Any result }
+    {
+        match paying_from(&self.book, place, 0, vendor, target) {
+            Ok(request) => self.keep(&request),
+            Err(none) => WalletOut::Refused(self, none),
         }
     }
 

@@ -7,6 +7,7 @@ ghost use Rattle.millicent_http.specs.declared.item.After.TheVariants.{Close};
 ghost use Rattle.ledger_model.specs.Histories.{History};
 ghost use Rattle.wallet_model.specs.Requests.{Pending, kept_get};
 ghost use Rattle.wallet_model.specs.Asks.{chosen, Offered};
+ghost use Rattle.wallet_book.specs.Choosing.{Chooses};
 ghost use Rattle.wallet_book.specs.Kept.{kept_in};
 ghost use Rattle.wallet_core.specs.Wallet.{WalletStands};
 ghost use Rattle.link_turns.specs.declared.turn.Turn.TheVariants.{GoOn};
@@ -27,15 +28,15 @@ use reply_reader::ReplyReader;
 use scrip_form::Target;
 use scrip_journal::Halted;
 use wallet_book::Holding;
-use wallet_core::{Ask, Wallet, WalletOut};
+use wallet_core::{Wallet, WalletOut};
 
 /// How a target is paid for.
 #[derive(Clone, Copy)]
 pub(crate) enum Way {
     /// The request of this number, which is kept, is tried again.
     Again(u64),
-    /// A new one is made.
-    Anew,
+    /// A new one is made, with the piece of this place.
+    Anew(usize),
 }
 
 /// Pays for a target, and tells what it brought: tries the kept get of it, or one that is made with the piece that is
@@ -67,7 +68,11 @@ pub(crate) fn pay<O: Outside, U: Link>(
     let _most = allowance.budget.get();
     match find_way(&wallet, target, allowance, *paid) {
         Ok(Way::Again(number)) => { try_get(wallet, up, number, paid, after, reader, page) }
-        Ok(Way::Anew) => ask(wallet, up, target, allowance, paid, after, reader, page),
+        Ok(Way::Anew(place)) => {
+            ask(
+                wallet, up, place, target, allowance, paid, after, reader, page,
+            )
+        }
         Err(refusal) => Ok(refuse(wallet, &refusal, after, page)),
     }
 }
@@ -89,7 +94,10 @@ fn find_way<D: Disk>(
             within(Way::Again(number), paid, value, budget)
         }
         None => match wallet.choose(&allowance.vendor, allowance.limit) {
-            Ok(place) => within(Way::Anew, paid, value_at(wallet.holdings(), place), budget),
+            Ok(place) => {
+                let worth = value_at(wallet.holdings(), place);
+                within(Way::Anew(place), paid, worth, budget)
+            }
             Err(refusal) => Err(refusal),
         },
     }
@@ -123,10 +131,11 @@ fn is_within(paid: u64, value: u64, budget: u64) -> bool
     u128::from(paid) + u128::from(value) <= u128::from(budget)
 }
 
-/// Enters a new get of a target, and tries it.
+/// Enters a new get of a target with the piece of a place, which was chosen, and tries it.
 fn ask<O: Outside, U: Link>(
     wallet: Wallet<O>,
     up: &mut U,
+    place: usize,
     target: &Target,
     allowance: &Allowance,
     paid: &mut u64,
@@ -135,13 +144,15 @@ fn ask<O: Outside, U: Link>(
     page: &mut Page,
 ) -> Result<(Wallet<O>, Turn), Halted<O>>
     requires stands { IsTrue (O.link wallet.journal.disk).stands }
+    requires chosen { (h : History) → WalletStands O.disk wallet h
+        → (limit : ℕ) × Chooses (chosen h wallet.book.time allowance.now.vendor limit) (Ok place) }
     ensures moved { U.link_moved up.old up.new }
     ensures causes { PartCauses O.link O.disk wallet.journal.disk (λ r. r.0.journal.disk) result }
     ensures limits { IfOk result (λ r. r.0.book.limits ≡ wallet.book.limits) }
     ensures standing { IfOk result (λ r. r.1 ≡ GoOn → IsTrue (O.link r.0.journal.disk).stands) }
     ensures open { IfOk result (λ r. r.1 ≡ GoOn → after ≡ Close → ⊥) }
     ensures asked { (h : History) (o : Offered) → WalletStands O.disk wallet h
-        → chosen h wallet.book.time allowance.now.vendor allowance.now.limit ≡ Ok o
+        → chosen h wallet.book.time allowance.now.vendor allowance.now.limit ≡ Ok o → place ≡ o.place
         → paid.old + o.piece.value ≤ allowance.now.budget → allowance.now.budget ≤ MOST
         → Answers O.link O.disk allowance.now.budget
         (PaysBy (bounds_of allowance.now wallet.book.limits) (state_at h (now wallet paid.old (U.link up.old))) target.now (Ok (anew o)))
@@ -149,12 +160,7 @@ fn ask<O: Outside, U: Link>(
         after wallet.journal.disk (state_at h (now wallet paid.old (U.link up.old))) paid.new (U.link up.new) result }
 {
     let time = wallet.time();
-    let ask = Ask::Get {
-        vendor: allowance.vendor,
-        target: *target,
-        limit: allowance.limit,
-    };
-    match wallet.pend(&ask) {
+    match wallet.pend_chosen(place, &allowance.vendor, target) {
         WalletOut::Done(wallet, number) => {
             try_get(wallet, up, number, paid, after, reader, page)
         }
