@@ -5,7 +5,7 @@ from stage import LinkFault
 from words import want
 
 MOST_TOLD = 139_265
-MOST_ANSWER = 2**20
+MOST_ANSWER = 2**24
 DISK_FAULT = 4
 
 
