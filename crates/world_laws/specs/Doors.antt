@@ -51,8 +51,8 @@ pub record StandsInBook (h : History) : Type 0 where
   pub stands : Encodes (h ++ more) bytes
   pub lawful : IsLawful full (h ++ more)
 
--- What house i did by a command that was told at one reading of its clock: its entry was entered, at the house time that the reading raised; or
--- none was, and the house read its clock.
+-- What house i did by a command that was told at one reading of its clock: its entry was entered, at the house time that the reading
+-- raised; or none was, and the house read its clock.
 abbrev pub IsCommandOf : ℕ → State → ℕ → State → Event → Type 0
 IsCommandOf i s reading t event =
     ((t ≡ raised s reading) × (event ≡ Read i reading))
@@ -64,8 +64,8 @@ AreCommandsOf i s [] [] [] = Unit {0}
 AreCommandsOf i s (d ∷ []) (reading ∷ []) (event ∷ []) = IsCommandOf i s reading d.after event
 AreCommandsOf i s _ _ _ = ⊥
 
--- What house i did on one link of its operator's, from state s, is such an event, or none. It is said where the reading is a moment, and the history
--- that stands then is one of a book.
+-- What house i did on one link of its operator's, from state s, is such an event, or none. It is said where the reading is a moment, and
+-- the history that stands then is one of a book.
 pub record CommandIsPlayed (w : World) (i : ℕ) (s : State) (steps : List (Did State)) (before after : LinkView) : Type 0 where
   pub got : List ℕ
   pub readings : List ℕ
@@ -102,8 +102,8 @@ pub record OpenArePlayed (i n : ℕ) (s : State) (steps : List (Did State)) (bef
   pub same : after.sessions ≡ between.sessions
   pub tells : TellsMoments after → TellsMoments between
 
--- Of the operator's link on which the disk failed: his command is Enter of the entry in doubt, at the time that one reading of the clock raised, where the
--- history with it is one of a book. So much of what tells of the fault was sent.
+-- Of the operator's link on which the disk failed: his command is Enter of the entry in doubt, at the time that one reading of the clock
+-- raised, where the history with it is one of a book. So much of what tells of the fault was sent.
 pub record DoubtIsPlayed (w : World) (i : ℕ) (s : State) (e : Entry) (said : List ℕ) (before after : LinkView) : Type 0 where
   pub got : List ℕ
   pub reading : ℕ
@@ -125,7 +125,8 @@ pub record FirstOpenPlayed (i : ℕ) (s : State) (steps : List (Did State)) (e :
       → (IsWhose (next_taken between) false × FrontIsPlayed full w i (state_after s front) last said (next_taken between) after)
       ⊎ (IsWhose (next_taken between) true × (last ≡ []) × DoubtIsPlayed w i (state_after s front) e said (next_taken between) after)
 
--- what serving links with a door says: of as many as were asked for, or all that came; where the next one could not be taken; and where the disk failed
+-- what serving links with a door says: of as many as were asked for, or all that came; where the next one could not be taken; and where
+-- the disk failed
 pub record OpenLinksPlay (ends : Endings) (doubts : Doubts) : Type 0 where
   pub all : (i links n : ℕ) (s : State) (steps : List (Did State)) (before after : LinkView)
       → ServedAllBy (HadEither IsWhose ends MOST_TOLD) links n steps s before after → OpenArePlayed i n s steps before after
@@ -146,8 +147,8 @@ abbrev pub OpenFrontsLead : ℕ → State → List (Did State) → LinkView → 
 OpenFrontsLead i s steps after = (done rest : List (Did State)) → steps ≡ done ++ rest → StandsInBook (state_after s done).history → (w : World) → slice_get w.houses i ≡ Some s → TellsMoments after
     → LeadsBy IsOfDoor full w i (state_after s done) after
 
--- Links of a house with a door, one after another, are one schedule, in which nobody else moves, and so is each first part of their steps. Where the disk
--- failed they are it up to the request or the command in doubt, and with its entry, which the disk may have.
+-- Links of a house with a door, one after another, are one schedule, in which nobody else moves, and so is each first part of their steps.
+-- Where the disk failed they are it up to the request or the command in doubt, and with its entry, which the disk may have.
 pub record OpenLinksLead (ends : Endings) (doubts : Doubts) : Type 0 where
   pub all : (i links n : ℕ) (s : State) (steps : List (Did State)) (before after : LinkView)
       → ServedAllBy (HadEither IsWhose ends MOST_TOLD) links n steps s before after → OpenFrontsLead i s steps after
@@ -162,8 +163,9 @@ pub record OpenLinksLead (ends : Endings) (doubts : Doubts) : Type 0 where
 
 -- ---- a run
 
--- What serving a book with a door says (`OpensLinksOf`), from each world where house i has the history of the book: a new run, and one schedule of such
--- events; the disk encodes what the house has then, and each crash meanwhile leaves what such a run leaves, or what one before could.
+-- What serving a book with a door says (`OpensLinksOf`), from each world where house i has the history of the book: a new run, and one
+-- schedule of such events; the disk encodes what the house has then, and each crash meanwhile leaves what such a run leaves, or what one
+-- before could.
 abbrev pub OpeningIsARun : {O : Type 0} → (O → LinkView) → (O → DiskView) → Endings → Doubts → Type 0
 OpeningIsARun {O} link disk ends doubts = (kind links : ℕ) (bytes : List ℕ) (a : O) (status : Status) (b : O)
     → OpensLinksOf link disk (HadEither IsWhose ends MOST_TOLD) (DoubtsEither IsWhose doubts MOST_TOLD) kind links bytes a status b → HasServed status → TellsMoments (link b)
