@@ -1,6 +1,6 @@
 //! What a person is told on standard error beside a command's own line: why a book, a disk or a link failed, what is wrong with
 //! words and with lines of the input, what a reply said and was not taken of it, what a refusal means and what to do, which book
-//! of an audit it is, a clock that is not the book's, draws that wait.
+//! of an audit it is, a clock that is not the book's, draws that wait, which commands came at a door.
 //!
 //! Nothing that a command does depends on it.
 #![tactic(auto)]
@@ -8,6 +8,7 @@
 mod advice;
 mod audited;
 mod clock_gap;
+mod door_log;
 mod endings;
 mod entered;
 mod entries;
@@ -23,6 +24,7 @@ mod wrong_words;
 
 pub use audited::tell_audit;
 pub use clock_gap::{tell_ahead, tell_behind};
+pub use door_log::DoorLog;
 pub use endings::{tell_clear, tell_fault};
 pub use entered::tell_entered;
 pub use entries::{Survey, survey_of};

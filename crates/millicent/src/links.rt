@@ -1,6 +1,6 @@
 //! Where the links of a command come from.
 
-use diagnostics::Survey;
+use diagnostics::{DoorLog, Survey};
 use mc_door::{Caller, Listener, Source};
 use mc_site::{Streams, Watched};
 use std::io;
@@ -19,13 +19,14 @@ pub(crate) enum Links<'a> {
 }
 
 /// Links that come to an address. The first is asked for once the book was opened, and found good: then standard error says who
-/// listens where.
+/// listens where. Behind each of an operator's it says which command that was.
 #[derive(Drop)]
 pub(crate) struct Announced<'a> {
     links: Watched<'a, Listener<&'a HostRuntime>>,
     rt: &'a HostRuntime,
     // what is said, until it is
     listening: Option<Listening<'a>>,
+    log: DoorLog,
 }
 
 /// Who listens where.
@@ -52,6 +53,7 @@ impl<'a> Announced<'a> {
             links,
             rt,
             listening,
+            log: DoorLog::new(),
         }
     }
 }
@@ -84,14 +86,24 @@ impl<'a> Source for Announced<'a> {
         if let Some(listening) = self.listening.take() {
             listening.tell(self.rt);
         }
-        self.links.next()
+        self.log.end(self.rt);
+        let stands = self.links.next()?;
+        if stands && self.links.is_operators() {
+            self.log.begin();
+        }
+        Ok(stands)
     }
 
     fn recv(&mut self, buf: &mut [u8]) -> io::Result<usize> {
-        self.links.recv(buf)
+        let n = self.links.recv(buf)?;
+        if let Some(bytes) = buf.get(..n) {
+            self.log.hear(bytes);
+        }
+        Ok(n)
     }
 
     fn send(&mut self, bytes: &[u8]) -> io::Result<usize> {
+        self.log.answer(bytes);
         self.links.send(bytes)
     }
 
@@ -101,9 +113,11 @@ impl<'a> Source for Announced<'a> {
 
     fn end(&mut self) {
         self.links.end();
+        self.log.end(self.rt);
     }
 
     fn finish(&mut self) {
+        self.log.end(self.rt);
         self.links.finish();
     }
 }

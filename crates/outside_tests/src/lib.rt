@@ -11,6 +11,8 @@ mod callers;
 #[cfg(test)]
 mod door;
 #[cfg(test)]
+mod door_log;
+#[cfg(test)]
 mod help;
 #[cfg(test)]
 mod input_faults;
