@@ -13,6 +13,7 @@ use Rattle.millicent_http.specs.Takes.{TookItem}
 use Rattle.millicent_http.specs.Courses.{AreRead, with_readings}
 use Rattle.house_state.specs.Trade.{TradeView}
 use Rattle.house_core.specs.BenchView.{BenchView}
+use Rattle.house_core.specs.Bench.{state_of}
 use Rattle.house_core.specs.Session.{State, Step}
 use Rattle.house_core.specs.Gathering.{IsAhead, ReachesAhead}
 use Rattle.house_together.specs.declared.item.Taken.{Taken}
@@ -39,7 +40,7 @@ taken_of (Some to) after = Answered to after
 taken_of None after = NoRoom after
 
 -- What came of the next item of a link: from these bytes held and this link on it was taken and answered so; or what came ended
--- no item, and the link was at its end, or failed.
+-- no item, and the link was at its end, or failed; the house is then in the state in which it was.
 abbrev pub TakesAhead : {O T : Type 0} → (O → LinkView) → (O → DiskView) → (T → TradeView) → Limits → LinkView → State → History → History → ℕ → List ℕ → Held → BenchView T → InBatch O → List ℕ → Held → Taken → Type 0
 TakesAhead link disk trade limits v s h es at old held b batch new now (Answered to after) =
     (more : List ℕ) × (item : Item) × TookItem (held.bytes ++ more) held.given item after now
@@ -48,6 +49,6 @@ TakesAhead link disk trade limits v s h es at old held b batch new now (NoRoom a
     (more : List ℕ) × (item : Item) × TookItem (held.bytes ++ more) held.given item after now
     × AnsweredAhead link disk trade limits (λ i. i ≡ item) (after_recv more v) s h at old b batch new None
 TakesAhead link disk trade limits v s h es at old held b batch new now End =
-    (more : List ℕ) × EndsNoItem (held.bytes ++ more) × (link batch.disk ≡ after_eof (after_recv more v)) × IsAhead disk trade b batch h es × (new ≡ old)
+    (more : List ℕ) × EndsNoItem (held.bytes ++ more) × (link batch.disk ≡ after_eof (after_recv more v)) × IsAhead disk trade b batch h es × (state_of (h ++ es) b ≡ s) × (new ≡ old)
 TakesAhead link disk trade limits v s h es at old held b batch new now Fault =
-    (more : List ℕ) × EndsNoItem (held.bytes ++ more) × Failed (after_recv more v) (link batch.disk) × IsAhead disk trade b batch h es × (new ≡ old)
+    (more : List ℕ) × EndsNoItem (held.bytes ++ more) × Failed (after_recv more v) (link batch.disk) × IsAhead disk trade b batch h es × (state_of (h ++ es) b ≡ s) × (new ≡ old)

@@ -35,11 +35,11 @@ returns-in-End-clause-taken g c h es ahead =
     let took = c.take.follows.holds-at-none in
     let leads = leads_so c.args.reader.now _ c.take.result outs.End _ _ took c.in-End.is in
     let kept = ahead_kept g.O.Disk.disk g.T.Trade.trade c.args.bench.now c.args.batch.now c.take.new.k h es (g.met.O.Sides.link_keeps _ _ c.take.ensures.moved.0) c.take.ensures.moved.1 ahead in
-    (took.got, leads.1, leads.2, kept, refl)
+    (took.got, leads.1, leads.2, kept, refl, refl)
 
 pub returns-in-Fault-clause-taken : goal.returns-in-Fault-clause-taken
 returns-in-Fault-clause-taken g c h es ahead =
     let took = c.take.follows.holds-at-none in
     let leads = leads_so c.args.reader.now _ c.take.result outs.Fault _ _ took c.in-Fault.is in
     let kept = ahead_kept g.O.Disk.disk g.T.Trade.trade c.args.bench.now c.args.batch.now c.take.new.k h es (g.met.O.Sides.link_keeps _ _ c.take.ensures.moved.0) c.take.ensures.moved.1 ahead in
-    (took.got, leads.1, leads.2, kept, refl)
+    (took.got, leads.1, leads.2, kept, refl, refl)

@@ -36,6 +36,7 @@ returns-in-Ok-false-clause-gathered g c h es ahead =
       c.in-Ok-false.ensures.taken ∙ ap (λ (b : Bool). if b then next_taken v else none_left v) c.in-Ok-false.field-0-test,
       ahead_kept g.O.Disk.disk g.T.Trade.trade c.args.bench.now c.args.batch.now c.next_link.new.self h es (g.met.O.Sides.link_keeps _ _ c.next_link.ensures.moved.0) c.next_link.ensures.moved.1 ahead,
       refl,
+      refl,
     )
 
 pub returns-in-Err-clause-gathered : goal.returns-in-Err-clause-gathered
@@ -43,5 +44,6 @@ returns-in-Err-clause-gathered g c h es ahead = (
   c.if-stands.false,
   record { same = c.in-Err.ensures.failed; rose = c.in-Err.ensures.cause.rose },
   ahead_kept g.O.Disk.disk g.T.Trade.trade c.args.bench.now c.args.batch.now c.next_link.new.self h es (g.met.O.Sides.link_keeps _ _ c.next_link.ensures.moved.0) c.next_link.ensures.moved.1 ahead,
+  refl,
   refl,
 )
