@@ -18,7 +18,6 @@ use Rattle.house_together.specs.declared.replies.Due.{Due}
 use Rattle.house_together.specs.Replying.{RepliesDue, RepliesRound, NoneDue, reply_in, left_by, AllTell, parts_of, joined, SentParts, FinishesRound, history_of}
 use Rattle.scrip_journal.specs.Batches.{InBatch, IsBatch, BatchRests, batch_keeps}
 use Rattle.scrip_journal.proofs.BatchSteps.{batch_stands}
-use Rattle.house_core.specs.Session.{State}
 use Rattle.house_together.proofs.ReplyingLemmas.{keeps_then, told_sent}
 
 left_told : (turn : Turn) (v : LinkView) → IsSome v.sessions → IsSome (left_by turn v).sessions
